@@ -21,20 +21,22 @@ static const ng_memory not_there = NG_NOT_THERE;
 #define NO_MEMORY &not_there, 0
 #define NO_A2L (const uint8_t *)"", 0
 
-#define PLACES 64u
+#define SAMPLES 64u
 #define SEGMENT_BYTES 4096u
 #define MEASUREMENTS 5
 
 /* So many DAQ lists of event channel 0, each of so many ODTs of one entry: a whole packet, or two
- * bytes. */
+ * bytes. In the ring a sample takes 16 bytes, and 4 and the packet for each of its packets, up to a
+ * multiple of 8. */
 typedef struct {
     const char *name;
     uint8_t lists, odts, mode, first_size, size;
+    size_t record;
 } set;
 
 static const set sets[] = {
-    {"one list, one entry of 2 bytes", 1, 1, 0x00, 2, 2},
-    {"sixteen lists of seven ODTs of 64 bytes, with a timestamp", 16, 7, 0x10, 59, 63},
+    {"one list, one entry of 2 bytes", 1, 1, 0x00, 2, 2, 24},
+    {"sixteen lists of seven ODTs of 64 bytes, with a timestamp", 16, 7, 0x10, 59, 63, 496},
 };
 
 static void want(bool holds, const char *what) {
@@ -113,7 +115,7 @@ static cost measure(ng_slave *slave, ng_task *task, const set *set, int out) {
     unsigned long samples = 0;
     do {
         size_t len;
-        for (unsigned k = 0; k < PLACES / set->lists; k++) {
+        for (unsigned k = 0; k < SAMPLES / set->lists; k++) {
             ng_taken taken;
             want(ng_task_trigger(task, &memory, 1, k, &taken) == NG_OK, "trigger");
             want(taken.dropped == 0, "no sample is dropped");
@@ -131,10 +133,10 @@ static cost measure(ng_slave *slave, ng_task *task, const set *set, int out) {
 }
 
 static void measure_set(const set *set, int out) {
-    static const ng_event event = {.capacity = PLACES};
     static const ng_segment segment = {.len = SEGMENT_BYTES, .events = 1};
-    static const ng_profile profile = {.id = NG_ABSOLUTE, .ring = NG_RING_ITEMS, .ticks = 1, .unit = 3,
-                                       .stamp_size = 4, .max_cto = 64};
+    static const ng_profile profile = {.id = NG_ABSOLUTE, .ticks = 1, .unit = 3, .stamp_size = 4,
+                                       .max_cto = 64};
+    const ng_event event = {.capacity = SAMPLES * set->record};
     ng_slave slave = NG_SLAVE_INIT;
     ng_task task = NG_TASK_INIT;
     cost sent = {1e9, 1e9}, kept = {1e9, 1e9};

@@ -12,6 +12,7 @@
 
 #define LONG (1u << 20)
 #define TRIGGERS 64u
+#define RECORD 24u /* what a sample takes in the ring: 16 bytes, LEN and CTR, and 3 bytes */
 #define ROUNDS (1u << 13)
 #define MEASUREMENTS 7
 
@@ -56,7 +57,7 @@ static void ask(ng_slave *slave, const uint8_t *packet, uint8_t len) {
 
 static void open_slave(struct side *side, unsigned which) {
     static const ng_profile profile = {.ticks = 1, .unit = 3, .stamp_size = 4, .max_cto = 64};
-    static const ng_event event = {.capacity = TRIGGERS};
+    static const ng_event event = {.capacity = TRIGGERS * RECORD};
     ng_slave *slave = &side->slaves[which];
     ng_segment segments[2] = {{0, 0, side->memory[0].len, 1}, {1, 0, side->memory[1].len, 1}};
     want(ng_slave_open(&profile, segments, side->count, &event, 1, low, 0, slave) == NG_OK

@@ -71,17 +71,16 @@
  * Memory
  *   - A slave with n event channels and their tasks, and with l DAQ lists that have o ODTs and e
  *     entries in all, has at most so many bytes of malloc's. Only tested, by session_test.c:
- *         the slave, from its opening on   47000 + 24500 n + a2l_len; with NG_RING_BYTES
- *                                          47000 + 29500 n + a2l_len
+ *         the slave, from its opening on   54000 + 16000 n + a2l_len
  *         its lists, until they are freed  40 l + 24 o + 16 e
- *         a measurement                    3000 n + 160 l + 100 o + 80 e, and for each ring 560
- *                                          times its capacity, or with NG_RING_BYTES its capacity
+ *         a measurement                    2500 n + 160 l + 100 o + 80 e, and the capacity of each
+ *                                          event channel
  *   - A measurement that has ended, by DISCONNECT too, is freed where the next one begins, or by
  *     ng_slave_close. A task that took no trigger since, or whose stops found no room, keeps it
  *     longer; then it stands beside the next one. There are never more than two.
- *   - For example, two event channels of 64 samples and 15 lists of 8 ODTs of 15 entries take some
- *     325 kB while they are measured. 16 event channels of 1024 samples and 16 lists of 8 ODTs of 32
- *     entries take at most 10.1 MB, and with two measurements 19.7 MB.
+ *   - For example, two event channels of 32,768 bytes and 15 lists of 8 ODTs of 15 entries take some
+ *     314 kB while they are measured. 16 event channels of 65,536 bytes and 16 lists of 8 ODTs of 32
+ *     entries take at most 1.9 MB, and with two measurements 3.3 MB.
  *
  * No call aborts, and none reads or writes beyond the given lengths, whatever bytes and numbers it
  * is given. */
@@ -106,9 +105,11 @@ extern "C" {
 #define NG_MAX_EVENTS 16u       /* event channels of a slave: 1 to 16 */
 #define NG_MAX_SEGMENTS 16u     /* segments of a slave's memory: 1 to 16 */
 #define NG_MAX_IMAGE 4096u      /* bytes of a store's memory image: 1 to 4096 */
-#define NG_MAX_RING 1024u       /* places of an event channel's ring of items: 1 to 1024 */
-#define NG_MIN_BYTE_RING 532u   /* bytes of an event channel's ring of bytes: from 532 .. */
+#define NG_MAX_RING 1024u       /* places of an engine's ring of items: 1 to 1024 */
+#define NG_MIN_BYTE_RING 532u   /* bytes of an engine's ring of bytes: from 532 .. */
 #define NG_MAX_BYTE_RING 65536u /* .. to 65536 */
+#define NG_MIN_FRAME_RING 64u   /* bytes of the ring of a slave's event channel: from 64 .. */
+#define NG_MAX_FRAME_RING 16777216u /* .. to 16777216, a multiple of 8 */
 #define NG_MAX_LISTS 16u        /* DAQ lists, and so the lines of an account */
 #define NG_LAST 4u              /* measurements whose own accounts a slave keeps: the last four */
 #define NG_REPLY_BYTES 8u       /* room that the answer to a command needs */
@@ -194,9 +195,11 @@ typedef struct {
 } ng_task;
 #define NG_TASK_INIT { NULL, false }
 
-/* What a slave tells its master of an event channel. A name ends before its first zero byte. */
+/* What a slave tells its master of an event channel, and the capacity of the channel's ring. A
+ * sample takes 16 bytes there and its frames, which are 4 bytes and the packet for each packet, in
+ * all filled up to a multiple of 8; a stop takes 8 bytes. A name ends before its first zero byte. */
 typedef struct {
-    size_t capacity;            /* of its ring, within the limits of ng_ring */
+    size_t capacity;            /* in bytes: NG_MIN_FRAME_RING to NG_MAX_FRAME_RING, by eights */
     char name[NG_MAX_NAME + 1]; /* 0 to NG_MAX_NAME bytes of ASCII, 20 to 7E */
     uint8_t cycle, cycle_unit;  /* of its triggers, in its unit: 0 to 9, for 1 ns, 10 ns, .. 1 s */
     uint8_t priority;
@@ -221,7 +224,6 @@ typedef struct {
 /* What a slave is opened with, beside its segments and event channels. */
 typedef struct {
     ng_id_kind id;              /* the identification field of each DAQ packet */
-    ng_ring ring;               /* the kind of the rings, one ring per event channel */
     uint16_t ticks;             /* so many units are one tick of a timestamp: not 0 */
     uint8_t unit;               /* of a timestamp: 0 to 9, for 1 ns, 10 ns, .. 1 s */
     uint8_t stamp_size;         /* bytes of a timestamp: 1, 2 or 4 */
@@ -530,11 +532,10 @@ ng_status ng_sampler_free(ng_sampler *sampler);
  *
  *   NG_IN_USE      *slave isn't empty
  *   NG_BAD_LIMITS  channels is 0 or over NG_MAX_EVENTS, or count 0 or over NG_MAX_SEGMENTS; or
- *                  one of these is out of its limits: of the profile id, ring, ticks, unit,
- *                  stamp_size, max_cto, name (over max_cto - 8 bytes too), a2l_name or epk; of an
- *                  event channel capacity, for this kind of rings, name or cycle_unit; of a segment
- *                  len, base with len, its place behind the one before it, or events, where one
- *                  isn't there; a2l_len is 2^32 or more.
+ *                  one of these is out of its limits: of the profile id, ticks, unit, stamp_size,
+ *                  max_cto, name (over max_cto - 8 bytes too), a2l_name or epk; of an event channel
+ *                  capacity, name or cycle_unit; of a segment len, base with len, its place behind
+ *                  the one before it, or events, where one isn't there; a2l_len is 2^32 or more.
  *                  cycle, priority and extension have any value
  *   NG_MEMORY      malloc failed
  *   NG_OK          *slave holds the new slave
@@ -632,9 +633,9 @@ ng_status ng_slave_status(ng_slave *slave, ng_slave_state *state);
  * ng_trigger does, but off memory as it lies there: memory[i] is segment i, for each i below count.
  * One that this event channel may not read isn't looked at, and may be NG_NOT_THERE. While there is
  * no measurement nothing is due. Orders are done in the order of the master's commands. A stop
- * needs room in the ring, a place or 3 bytes: in a full one it waits, and the orders behind it with
- * it, until a trigger after ng_slave_peek took something off. Till then the list goes on being due,
- * as *taken says; but the master was answered, and gets nothing of it any more.
+ * needs room in the ring, 8 bytes: in a full one it waits, and the orders behind it with it, until
+ * a trigger after ng_slave_peek took something off. Till then the list goes on being due, as *taken
+ * says; but the master was answered, and gets nothing of it any more.
  *
  *   NG_EMPTY         *task is empty
  *   NG_WRONG_MEMORY  in a measurement: count isn't the slave's number of segments, or one that the

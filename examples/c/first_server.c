@@ -68,7 +68,7 @@ int main(int argc, char **argv) {
     static char a2l[65536];
     const ng_memory memory = {__start_measured, (size_t)(__stop_measured - __start_measured)};
     const ng_segment segment = {.base = 0x10000000, .len = memory.len, .events = 1};
-    const ng_event event = {.capacity = 64, .name = "10 ms", .cycle = 10, .cycle_unit = 6};
+    const ng_event event = {.capacity = 4096, .name = "10 ms", .cycle = 10, .cycle_unit = 6};
     ng_profile profile = {.ticks = 1, .unit = 7, .stamp_size = 4, .max_cto = 64,
                           .name = "first_server"};
     const struct a2l_table table = {&profile, &segment, &memory, &event, variables, 1, 1, 3,

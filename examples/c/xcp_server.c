@@ -99,10 +99,10 @@ static ng_memory memory[TASKS]; /* the sections, where they are */
 static ng_segment segments[TASKS] = {{.base = 0x10000000, .events = 1 << 0},
                                      {.base = 0x20000000, .events = 1 << 1}};
 static const ng_event events[TASKS] = {
-    {.capacity = 64, .name = "1 ms", .cycle = 1, .cycle_unit = 6, .priority = 1},
-    {.capacity = 64, .name = "10 ms", .cycle = 10, .cycle_unit = 6}};
-static ng_profile profile = {.id = NG_ABSOLUTE, .ring = NG_RING_ITEMS, .ticks = 1, .unit = 3,
-                             .stamp_size = 4, .max_cto = MAX_CTO, .name = "xcp_server",
+    {.capacity = 4096, .name = "1 ms", .cycle = 1, .cycle_unit = 6, .priority = 1},
+    {.capacity = 4096, .name = "10 ms", .cycle = 10, .cycle_unit = 6}};
+static ng_profile profile = {.id = NG_ABSOLUTE, .ticks = 1, .unit = 3, .stamp_size = 4,
+                             .max_cto = MAX_CTO, .name = "xcp_server",
                              .a2l_name = "xcp_server"};
 
 static char a2l[1 << 16];

@@ -7,7 +7,7 @@
  * first that were accepted, and each is marked exactly if one was dropped just before it. In 200
  * more runs the tasks stand still where a measurement begins and ends, so that they know of which
  * measurement each trigger is: the accounts of the last four alone, and of those before, are what
- * they counted. Prints a line for each kind of rings, and one more; ends with status 1 at the first
+ * they counted. Prints a line for the ones and one for the others; ends with status 1 at the first
  * thing that isn't as wanted. */
 #define _POSIX_C_SOURCE 200809L
 #define LISTS 4
@@ -237,10 +237,10 @@ static void measure(ng_slave *slave) {
 
 /* ---- the whole */
 
-static void open_slave(ng_ring ring, size_t cap, ng_slave *slave) {
+static void open_slave(size_t cap, ng_slave *slave) {
     static const struct shape all[LISTS] = {{0, 1, 1}, {1, 1, 1}, {0, 2, 2}, {1, 2, 3}};
     memcpy(shapes, all, sizeof shapes);
-    open_with(ring, cap, cap, slave);
+    open_with(cap, cap, slave);
     memset(samplings, 0, sizeof samplings);
     for (unsigned c = 0; c < CHANNELS; c++) {
         ng_task none = NG_TASK_INIT;
@@ -392,13 +392,13 @@ static void close_known(ng_slave *slave, const struct counted *measured, unsigne
     for (unsigned l = 0; l < LISTS; l++) olds += older.due[l];
 }
 
-static void run_known(ng_ring ring, size_t cap) {
+static void run_known(size_t cap) {
     ng_slave slave = NG_SLAVE_INIT;
     struct counted measured[MEASUREMENTS];
     unsigned long held = memory_held;
     srand(++seed);
     unsigned count = roll(MEASUREMENTS) + 1;
-    open_slave(ring, cap, &slave);
+    open_slave(cap, &slave);
     connect(&slave);
     start_threads();
     stand();
@@ -411,11 +411,11 @@ static void run_known(ng_ring ring, size_t cap) {
     want(memory_held == held, "all memory was given back");
 }
 
-static void run(ng_ring ring, size_t cap) {
+static void run(size_t cap) {
     ng_slave slave = NG_SLAVE_INIT;
     unsigned long held = memory_held;
     srand(++seed);
-    open_slave(ring, cap, &slave);
+    open_slave(cap, &slave);
     connect(&slave);
     if (roll(2) == 0) measure_alone(&slave);
     start_threads();
@@ -433,28 +433,21 @@ static void run(ng_ring ring, size_t cap) {
     want(memory_held == held, "all memory was given back");
 }
 
-/* Runs over small and over large rings. */
-static void run_all(ng_ring ring, size_t small, size_t large, const char *of) {
-    for (unsigned k = 0; k < RUNS; k++) {
-        run(ring, small);
-        run(ring, large);
-    }
-    printf("%u runs over rings of %s, with the accounts that the tasks counted: ok\n", 2 * RUNS,
-           of);
-}
+/* The bytes of the rings: so many that 4 samples of two packets find room, 29 of one packet, 1,024
+ * of two, and 3,640 of one. */
+static const size_t caps[] = {160, 928, 40960, 116480};
+
+#define RINGS (sizeof caps / sizeof *caps)
 
 int main(void) {
-    run_all(NG_RING_ITEMS, 4, NG_MAX_RING, "items");
-    run_all(NG_RING_BYTES, NG_MIN_BYTE_RING, NG_MAX_BYTE_RING, "bytes");
+    for (unsigned k = 0; k < RUNS; k++)
+        for (size_t ring = 0; ring < RINGS; ring++) run(caps[ring]);
     want(marks > 0 && lefts > 0 && thrown > 0, "samples were marked, left and thrown away");
-    for (unsigned k = 0; k < KNOWN_RUNS; k++) {
-        run_known(NG_RING_ITEMS, 4);
-        run_known(NG_RING_ITEMS, NG_MAX_RING);
-        run_known(NG_RING_BYTES, NG_MIN_BYTE_RING);
-        run_known(NG_RING_BYTES, NG_MAX_BYTE_RING);
-    }
+    printf("%zu runs, with the accounts that the tasks counted: ok\n", RINGS * RUNS);
+    for (unsigned k = 0; k < KNOWN_RUNS; k++)
+        for (size_t ring = 0; ring < RINGS; ring++) run_known(caps[ring]);
     want(olds > 0, "there were more than the last four");
-    printf("%u runs, with the accounts of each measurement that the tasks counted: ok\n",
-           4 * KNOWN_RUNS);
+    printf("%zu runs, with the accounts of each measurement that the tasks counted: ok\n",
+           RINGS * KNOWN_RUNS);
     return 0;
 }

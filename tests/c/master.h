@@ -198,13 +198,14 @@ static void lose(ng_slave *slave) {
 
 /* ---- the slave */
 
-/* Opens a slave of two event channels, and of a segment of four bytes. Nothing was sent so far. */
-static void open_with(ng_ring ring, size_t cap, size_t other, ng_slave *slave) {
+/* Opens a slave of two event channels, whose rings have so many bytes, and of a segment of four
+ * bytes. Nothing was sent so far. In a ring a sample of a list takes 32 bytes, or 40 if it has two
+ * packets, and a stop takes 8. */
+static void open_with(size_t cap, size_t other, ng_slave *slave) {
     ng_profile profile = {
         .id = NG_ABSOLUTE, .ticks = 1, .unit = 3, .stamp_size = 4, .max_cto = 64, .name = ""};
     ng_segment segment = {.len = 4, .events = 3};
     ng_event events[2] = {{.name = "e0"}, {.name = "e1"}};
-    profile.ring = ring;
     events[0].capacity = cap;
     events[1].capacity = other;
     want(ng_slave_open(&profile, &segment, 1, events, 2, NO_A2L, slave) == NG_OK, "open");

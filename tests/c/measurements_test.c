@@ -1,12 +1,12 @@
 /* Measurements of a slave that come and go while its tasks run, each in a thread of its own and as
- * fast as it can: 1,000 of them with each of three seeds, over both kinds of rings. The slave is in
- * the first thread, beside a master that sends orders at random, loses its connection, and sets
- * lists up anew. What the slave sends is read as a master reads it: CTR rises by one, each command
- * has its reply, in order, no packet of a list stands outside of a run, each sample is whole, and
- * the samples of a list rise. What waits for a master that is lost never comes. A start that is
- * refused with ERR_CMD_BUSY is accepted in the end. The account has what the triggers answered as
- * due and dropped, and what was read as written. The triggers take and free no memory. Prints a
- * line for each seed; ends with status 1 at the first thing that isn't as wanted. */
+ * fast as it can: 1,000 of them with each of three seeds, over small and over larger rings. The
+ * slave is in the first thread, beside a master that sends orders at random, loses its connection,
+ * and sets lists up anew. What the slave sends is read as a master reads it: CTR rises by one, each
+ * command has its reply, in order, no packet of a list stands outside of a run, each sample is
+ * whole, and the samples of a list rise. What waits for a master that is lost never comes. A start
+ * that is refused with ERR_CMD_BUSY is accepted in the end. The account has what the triggers
+ * answered as due and dropped, and what was read as written. The triggers take and free no memory.
+ * Prints a line for each seed; ends with status 1 at the first thing that isn't as wanted. */
 #define _POSIX_C_SOURCE 200809L
 #define LISTS 6
 #include "master.h"
@@ -167,10 +167,8 @@ static void measure(ng_slave *slave) {
 
 /* ---- the whole */
 
-/* In a ring of few places stops wait for room. */
-static void open_slave(ng_ring ring, ng_slave *slave, struct sampling *samplings) {
-    if (ring == NG_RING_ITEMS) open_with(ring, 16, 2, slave);
-    else open_with(ring, NG_MIN_BYTE_RING, NG_MIN_BYTE_RING, slave);
+static void open_slave(size_t cap, size_t other, ng_slave *slave, struct sampling *samplings) {
+    open_with(cap, other, slave);
     for (unsigned c = 0; c < CHANNELS; c++) {
         struct sampling none = {NG_TASK_INIT, {0}, {0}, false};
         samplings[c] = none;
@@ -195,13 +193,13 @@ static void close_slave(ng_slave *slave, const struct sampling *samplings) {
     }
 }
 
-static void play(ng_ring ring, unsigned by) {
+static void play(size_t cap, size_t other, unsigned by) {
     ng_slave slave = NG_SLAVE_INIT;
     struct sampling samplings[CHANNELS];
     pthread_t threads[CHANNELS];
     unsigned long held = memory_held;
     srand(seed = by);
-    open_slave(ring, &slave, samplings);
+    open_slave(cap, other, &slave, samplings);
     __atomic_store_n(&over, false, __ATOMIC_SEQ_CST);
     for (unsigned c = 0; c < CHANNELS; c++)
         want(pthread_create(&threads[c], NULL, sample, &samplings[c]) == 0, "thread");
@@ -217,12 +215,14 @@ static void play(ng_ring ring, unsigned by) {
     }
     close_slave(&slave, samplings);
     want(memory_held == held, "all memory was given back");
-    printf("%u measurements in three threads, seed %u%s: ok\n", MEASUREMENTS, seed,
-           ring == NG_RING_BYTES ? ", over rings of bytes" : "");
+    printf("%u measurements in three threads, over rings of %zu and %zu bytes, seed %u: ok\n",
+           MEASUREMENTS, cap, other, seed);
 }
 
+/* In a ring of 640 bytes 16 samples of two packets find room, in one of 928 bytes 29 of one packet.
+ * Two of these fill a ring of 64 bytes, and stops wait for room there. */
 int main(void) {
-    for (unsigned k = 1; k <= 3; k++) play(NG_RING_ITEMS, k);
-    for (unsigned k = 1; k <= 3; k++) play(NG_RING_BYTES, k);
+    for (unsigned k = 1; k <= 3; k++) play(640, 64, k);
+    for (unsigned k = 1; k <= 3; k++) play(928, 928, k);
     return 0;
 }

@@ -18,20 +18,15 @@ static const ng_memory not_there = NG_NOT_THERE;
 
 static const char *part = "";
 
-/* The kind of rings that the parts are gone through with. */
-static ng_ring ring = NG_RING_ITEMS;
-
-static const char *over(void) { return ring == NG_RING_BYTES ? "over rings of bytes: " : ""; }
-
 static void want(bool holds, const char *what) {
     if (holds) return;
-    printf("%s%s: FAILED: %s\n", over(), part, what);
+    printf("%s: FAILED: %s\n", part, what);
     exit(1);
 }
 
 static void begin(const char *name) { part = name; }
 
-static void end(void) { printf("%s%s: ok\n", over(), part); }
+static void end(void) { printf("%s: ok\n", part); }
 
 /* The bytes of a text in hexadecimal. */
 static size_t unhex(const char *text, uint8_t *bytes) {
@@ -48,14 +43,13 @@ static size_t unhex(const char *text, uint8_t *bytes) {
 static ng_profile profile_of(void) {
     ng_profile profile = {
         .id = NG_ABSOLUTE, .ticks = 1, .unit = 3, .stamp_size = 4, .max_cto = 64, .name = "ng"};
-    profile.ring = ring;
     return profile;
 }
 
-/* An event channel of 1 ms whose ring has room for four samples, or for more. */
+/* An event channel of 1 ms whose ring has room for four samples of one frame of 9 to 16 bytes: each
+ * takes 16 bytes and its frame, filled up to a multiple of 8. */
 static ng_event event_of(const char *name) {
-    ng_event event = {.cycle = 1, .cycle_unit = 6};
-    event.capacity = ring == NG_RING_BYTES ? NG_MIN_BYTE_RING : 4;
+    ng_event event = {.capacity = 4 * 32, .cycle = 1, .cycle_unit = 6};
     memcpy(event.name, name, strlen(name));
     return event;
 }
@@ -203,7 +197,7 @@ static void spoil(unsigned k, ng_profile *p, ng_event *e, ng_segment *s) {
     case 0: s[0].len = 0; break;
     case 1: s[1].len = 0x100000001u; break;
     case 2: p->id = 3; break;
-    case 3: p->ring = 2; break;
+    case 3: e->capacity = NG_MIN_FRAME_RING - 8; break;
     case 4: p->ticks = 0; break;
     case 5: p->unit = 10; break;
     case 6: p->stamp_size = 3; break;
@@ -213,12 +207,12 @@ static void spoil(unsigned k, ng_profile *p, ng_event *e, ng_segment *s) {
     case 10: p->name[0] = 0x1F; break;
     case 11: p->name[0] = 0x7F; break;
     case 12: e->capacity = 0; break;
-    case 13: e->capacity = ring == NG_RING_BYTES ? NG_MAX_BYTE_RING + 1 : NG_MAX_RING + 1; break;
+    case 13: e->capacity = NG_MAX_FRAME_RING + 8; break;
     case 14: e->capacity = SIZE_MAX; break;
     case 15: memset(e->name, 'n', sizeof e->name); break;
     case 16: e->name[1] = '\n'; break;
     case 17: e->cycle_unit = 10; break;
-    case 18: e->capacity = ring == NG_RING_BYTES ? NG_MIN_BYTE_RING - 1 : NG_MAX_RING + 1; break;
+    case 18: e->capacity = NG_MIN_FRAME_RING - 1; break;
     case 19: p->id = UINT32_MAX; break;
     case 20: memset(p->a2l_name, 'n', sizeof p->a2l_name); break;
     case 21: memset(p->epk, 'n', sizeof p->epk); break;
@@ -230,6 +224,8 @@ static void spoil(unsigned k, ng_profile *p, ng_event *e, ng_segment *s) {
     case 27: p->max_cto = 7; break;
     case 28: p->max_cto = 0; break;
     case 29: p->max_cto = 9; break;       /* the reply with the name has 10 bytes */
+    case 30: e->capacity = NG_MIN_FRAME_RING + 4; break;
+    case 31: e->capacity = SIZE_MAX - 7; break; /* a multiple of 8 */
     default: s[1].events = 0x8001; break; /* event channel 15 */
     }
 }
@@ -241,7 +237,7 @@ static void openings(void) {
     ng_slave slave = NG_SLAVE_INIT;
     begin("openings");
     for (size_t c = 1; c < 17; c++) events[c] = event_of("e1");
-    for (unsigned k = 0; k < 31; k++) {
+    for (unsigned k = 0; k < 33; k++) {
         ng_profile p = good;
         ng_event e = event_of("e0");
         ng_segment s[2] = {segment_of(2, 2), segment_of(2, 1)};
@@ -760,13 +756,10 @@ static void within(unsigned long least, unsigned long bytes, unsigned long most,
  * may read the first. */
 static void heap_of(const struct load *load) {
     static const uint8_t a2l[1000] = {0};
-    bool of_bytes = ring == NG_RING_BYTES;
     unsigned l = load->lists, o = l * load->odts, e = o * load->entries, n = load->channels;
-    unsigned long capacity = of_bytes ? 64 * load->capacity : load->capacity;
-    if (of_bytes && capacity < NG_MIN_BYTE_RING) capacity = NG_MIN_BYTE_RING;
-    unsigned long of_slave = 47000 + (of_bytes ? 29500 : 24500) * n + sizeof a2l;
-    unsigned long of_lists = 40 * l + 24 * o + 16 * e, of_ring = (of_bytes ? 1 : 560) * capacity;
-    unsigned long most = 3000 * n + 160 * l + 100 * o + 80 * e + n * of_ring;
+    unsigned long of_slave = 54000 + 16000 * n + sizeof a2l;
+    unsigned long of_lists = 40 * l + 24 * o + 16 * e;
+    unsigned long most = 2500 * n + 160 * l + 100 * o + 80 * e + n * load->capacity;
     ng_profile profile = profile_of();
     ng_segment segments[NG_MAX_SEGMENTS] = {segment_of(256, n)};
     ng_event events[16] = {event_of("e")};
@@ -784,7 +777,7 @@ static void heap_of(const struct load *load) {
     memset(events[0].name, 'e', NG_MAX_NAME);
     for (unsigned c = 0; c < n; c++) {
         events[c] = events[0];
-        events[c].capacity = capacity;
+        events[c].capacity = load->capacity;
     }
     want(ng_slave_open(&profile, segments, NG_MAX_SEGMENTS, events, n, a2l, sizeof a2l, &slave) == NG_OK,
          "open");
@@ -796,10 +789,10 @@ static void heap_of(const struct load *load) {
     start_all(&slave, load);
     unsigned long measures = memory_bytes;
     within(0, measures - opened - of_lists, most, "of a measurement");
-    if (n == 2 && !of_bytes) within(315000, measures - before, 335000, "some 325 kB");
+    if (n == 2) within(304000, measures - before, 324000, "some 314 kB");
     trigger_all(tasks, load);
     ask(&slave, "fe");
-    /* each stop of a list finds room, also in a ring of one place */
+    /* each stop of a list finds room, also in the smallest ring */
     for (unsigned k = 0; k < 4; k++) {
         size_t len;
         trigger_all(tasks, load);
@@ -826,11 +819,11 @@ static void heap_of(const struct load *load) {
 }
 
 static void heap(void) {
-    static const struct load loads[] = {{1, 1, 1, 1, 1, 1, NG_ABSOLUTE},
-                                        {1, 64, 15, 8, 17, 1, NG_ABSOLUTE},
-                                        {2, 64, 15, 8, 15, 3, NG_ABSOLUTE},
-                                        {16, 1, 16, 1, 1, 1, NG_ABSOLUTE},
-                                        {16, 1024, 16, 8, 32, 1, NG_RELATIVE_WORD}};
+    static const struct load loads[] = {{1, 64, 1, 1, 1, 1, NG_ABSOLUTE},
+                                        {1, 12800, 15, 8, 17, 1, NG_ABSOLUTE},
+                                        {2, 32768, 15, 8, 15, 3, NG_ABSOLUTE},
+                                        {16, 64, 16, 1, 1, 1, NG_ABSOLUTE},
+                                        {16, 65536, 16, 8, 32, 1, NG_RELATIVE_WORD}};
     begin("a slave takes as many bytes as are said, and gives them back");
     for (size_t k = 0; k < LEN(loads); k++) heap_of(&loads[k]);
     end();
@@ -838,7 +831,7 @@ static void heap(void) {
 
 /* In a ring that has room for nothing a stop waits, and so does a start behind it. */
 static void waiting_stop(void) {
-    static const struct load load = {1, 4, 3, 1, 1, 1, NG_ABSOLUTE};
+    static const struct load load = {1, 128, 3, 1, 1, 1, NG_ABSOLUTE};
     ng_slave slave = open_slave(1);
     ng_task task = task_of(&slave, 0);
     static const uint8_t bytes[2] = {0};
@@ -848,7 +841,7 @@ static void waiting_stop(void) {
     begin("a stop waits for room in a full ring, and a later start behind it");
     set_up(&slave, &load);
     ask(&slave, "de010000"); /* three lists are ready, and the first one is started */
-    /* each sample takes 12 bytes of a record, 1 for the packet's length, and 6: 532 has 28 */
+    /* each sample takes 16 bytes, and a frame of 10, up to a multiple of 8: four fill 128 */
     while (taken.dropped == 0)
         want(ng_task_trigger(&task, &memory, 1, 0, &taken) == NG_OK && taken.due == 1, "0 is due");
     hear(&slave, "04000000de010200" "04000000de000000" "04000000de010100");
@@ -959,15 +952,18 @@ static void shows_frames(ng_slave *slave, size_t cap, size_t first, size_t count
     }
 }
 
-/* A slave that has taken triggers, each with a sample of 8 packets of 64 bytes. */
-static ng_slave long_samples(ng_task *task, unsigned triggers) {
+/* What a sample of 8 packets of 64 bytes takes in a ring: 16 bytes, and 8 frames of 68. */
+#define LONG_SAMPLE 560u
+
+/* A slave that has taken triggers, each with such a sample, over a ring of so many bytes. */
+static ng_slave long_samples(size_t capacity, ng_task *task, unsigned triggers) {
     ng_profile profile = profile_of();
     ng_event event = event_of("e0");
     ng_slave slave = NG_SLAVE_INIT;
     uint8_t bytes[63];
     ng_segment segment = segment_of(sizeof bytes, 1);
     ng_memory memory = {bytes, sizeof bytes};
-    if (ring == NG_RING_BYTES) event.capacity = 3 * NG_MIN_BYTE_RING;
+    event.capacity = capacity;
     want(ng_slave_open(&profile, &segment, 1, &event, 1, NO_A2L, &slave) == NG_OK, "open");
     *task = task_of(&slave, 0);
     hear(&slave, "02000000ff00" "04000000d5000100" "05000000d400000008");
@@ -999,7 +995,7 @@ static void full_buffers(void) {
     static const ng_line account[] = {{0, 3, 3, 0, 0}};
     ng_task task;
     begin("buffers of a few frames");
-    ng_slave slave = long_samples(&task, 3);
+    ng_slave slave = long_samples(3 * LONG_SAMPLE, &task, 3);
     shows_frames(&slave, NG_PEEK_BYTES, 0, 3);
     shows_frames(&slave, NG_PEEK_BYTES, 0, 3);
     want(ng_slave_sent(&slave) == NG_OK, "sent");
@@ -1022,7 +1018,7 @@ static void cut_samples(void) {
     static const ng_line account[] = {{0, 2, 1, 0, 1}};
     ng_task task;
     begin("a sample that is cut where the transport is lost");
-    ng_slave slave = long_samples(&task, 2);
+    ng_slave slave = long_samples(3 * LONG_SAMPLE, &task, 2);
     shows_frames(&slave, sizeof buffer, 0, 16);
     shows_frames(&slave, 12 * 68, 0, 12);
     want(ng_slave_sent(&slave) == NG_OK, "sent");
@@ -1033,6 +1029,68 @@ static void cut_samples(void) {
     sends(&slave, "08002900ff04804040000101");
     finish(&task);
     close_with(&slave, account, 1);
+    end();
+}
+
+static ng_slave open_ring(size_t capacity) {
+    ng_profile profile = profile_of();
+    ng_segment segment = segment_of(2, 1);
+    ng_event event = event_of("e0");
+    ng_slave slave = NG_SLAVE_INIT;
+    event.capacity = capacity;
+    want(ng_slave_open(&profile, &segment, 1, &event, 1, NO_A2L, &slave) == NG_OK, "open");
+    return slave;
+}
+
+static void smallest_ring(void) {
+    static const ng_line account[] = {{0, 4, 3, 1, 0}};
+    ng_slave slave = open_ring(NG_MIN_FRAME_RING);
+    ng_task task = task_of(&slave, 0);
+    start(&slave);
+    /* each sample takes 16 bytes, and a frame of 7, up to a multiple of 8: 64 bytes have two */
+    trigger(&task, "aabb", 1, 1);
+    trigger(&task, "ccdd", 1, 1);
+    trigger(&task, "eeff", 1, 0);
+    sends(&slave, "0300080000aabb" "0300090000ccdd");
+    trigger(&task, "1122", 1, 1);
+    sends(&slave, "03000a00801122");
+    finish(&task);
+    close_with(&slave, account, 1);
+}
+
+static void greatest_ring(void) {
+    static const ng_line account[] = {{0, 1, 1, 0, 0}};
+    ng_slave slave = open_ring(NG_MAX_FRAME_RING);
+    ng_task task = task_of(&slave, 0);
+    unsigned long before = memory_bytes;
+    start(&slave);
+    want(memory_bytes - before > NG_MAX_FRAME_RING, "the measurement's ring is there");
+    trigger(&task, "aabb", 1, 1);
+    sends(&slave, "0300080000aabb");
+    finish(&task);
+    close_with(&slave, account, 1);
+}
+
+/* Of two samples one is accepted where it just fits, and none where it doesn't. */
+static void one_sample(size_t capacity, unsigned accepted) {
+    const ng_line account[] = {{0, 2, accepted, 2 - accepted, 0}};
+    static const uint8_t bytes[63];
+    const ng_memory memory = {bytes, sizeof bytes};
+    ng_task task;
+    ng_slave slave = long_samples(capacity, &task, 0);
+    trigger_with(&task, &memory, 1, 1, accepted);
+    trigger_with(&task, &memory, 1, 1, 0);
+    if (accepted > 0) skip(&slave);
+    finish(&task);
+    close_with(&slave, account, 1);
+}
+
+static void full_rings(void) {
+    begin("the smallest ring and the greatest, and samples that just fit, or don't");
+    smallest_ring();
+    greatest_ring();
+    one_sample(LONG_SAMPLE, 1);
+    one_sample(LONG_SAMPLE - 8, 0);
     end();
 }
 
@@ -1177,30 +1235,28 @@ int main(void) {
     setvbuf(stdout, text, _IOFBF, sizeof text);
     unsigned long held = memory_held;
     empty_handles();
-    for (ring = NG_RING_ITEMS; ring <= NG_RING_BYTES; ring++) {
-        openings();
-        sessions();
-        readings();
-        two_channels();
-        segments();
-        pieces();
-        datagrams();
-        bad_frames();
-        many_replies();
-        behind_a_bad_frame();
-        lost_masters();
-        full_buffers();
-        cut_samples();
-        small_buffers();
-        unfinished();
-        gone_tasks();
-        other_kinds();
-        no_memory();
-        long_run();
-        heap();
-        waiting_stop();
-    }
-    ring = NG_RING_ITEMS;
+    openings();
+    sessions();
+    readings();
+    two_channels();
+    segments();
+    pieces();
+    datagrams();
+    bad_frames();
+    many_replies();
+    behind_a_bad_frame();
+    lost_masters();
+    full_buffers();
+    cut_samples();
+    full_rings();
+    small_buffers();
+    unfinished();
+    gone_tasks();
+    other_kinds();
+    no_memory();
+    long_run();
+    heap();
+    waiting_stop();
     begin("all memory was given back");
     want(memory_held == held, "a block is left");
     end();

@@ -1,6 +1,6 @@
 /* Two tasks in threads of their own, beside a slave in the first thread whose master starts and
  * stops their DAQ lists, many times over. Each thread finishes its task itself; the first one
- * closes the slave, in every other pair of runs before it joins the threads. Each task numbers its
+ * closes the slave, in every other four runs before it joins the threads. Each task numbers its
  * triggers in a segment of its own, so that each frame tells what came before it. Prints one line;
  * ends with status 1 at the first thing that isn't as wanted. */
 #include "memory.h"
@@ -18,7 +18,7 @@ static const ng_memory not_there = NG_NOT_THERE;
 #define CHANNELS 2
 #define TRIGGERS 400u
 #define TURNS 150
-#define TIMES 500
+#define TIMES 1000
 
 static void want(bool holds, const char *what) {
     if (holds) return;
@@ -146,12 +146,11 @@ static void turn(ng_slave *slave, unsigned list) {
     hear(slave, packet, 4, command);
 }
 
-static void open_slave(ng_ring ring, size_t cap, ng_slave *slave, struct sampling *samplings) {
+static void open_slave(size_t cap, ng_slave *slave, struct sampling *samplings) {
     ng_profile profile = {
         .id = NG_ABSOLUTE, .ticks = 1, .unit = 3, .stamp_size = 4, .max_cto = 64, .name = "ng"};
     ng_segment segments[CHANNELS] = {{.len = 4, .events = 1}, {.base = 4, .len = 4, .events = 2}};
     ng_event events[CHANNELS] = {{.name = "e0"}, {.name = "e1"}};
-    profile.ring = ring;
     for (unsigned c = 0; c < CHANNELS; c++) events[c].capacity = cap;
     want(ng_slave_open(&profile, segments, CHANNELS, events, CHANNELS, NO_A2L, slave) == NG_OK,
          "open");
@@ -183,12 +182,12 @@ static void close_slave(ng_slave *slave) {
     want(status == NG_OK && whole, "close");
 }
 
-static void run(ng_ring ring, size_t cap, bool joins) {
+static void run(size_t cap, bool joins) {
     ng_slave slave = NG_SLAVE_INIT;
     struct sampling samplings[CHANNELS];
     pthread_t threads[CHANNELS];
     unsigned long held = memory_held;
-    open_slave(ring, cap, &slave, samplings);
+    open_slave(cap, &slave, samplings);
     set_up(&slave);
     for (unsigned c = 0; c < CHANNELS; c++) turn(&slave, c);
     for (unsigned c = 0; c < CHANNELS; c++)
@@ -210,11 +209,11 @@ static void run(ng_ring ring, size_t cap, bool joins) {
     want(memory_held == held, "all memory was given back");
 }
 
+/* The bytes of the rings: each sample takes 32, so 4, 29, 1,024 and 3,640 find room. */
+static const size_t caps[] = {128, 928, 32768, 116480};
+
 int main(void) {
-    for (int k = 0; k < TIMES; k++) {
-        run(NG_RING_ITEMS, k % 2 == 0 ? 4 : NG_MAX_RING, k % 4 < 2);
-        run(NG_RING_BYTES, k % 2 == 0 ? NG_MIN_BYTE_RING : NG_MAX_BYTE_RING, k % 4 < 2);
-    }
+    for (int k = 0; k < TIMES; k++) run(caps[k % 4], k % 8 < 4);
     printf("two tasks in threads beside a slave: ok\n");
     return 0;
 }

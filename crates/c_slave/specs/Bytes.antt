@@ -1,8 +1,6 @@
 -- What the calls by which a slave hears its master, and is shown and sent what waits, answer and
 -- leave, by their status.
 use Rattle.std.specs.Prelude.{◌≡◌, ℕ, ◌<◌, ◌≤◌, false, true, List, length, Option}
-use Rattle.channel_ring.specs.declared.ends.TakeEnd.{Ghosts as TakeGhosts}
-use Rattle.c_engine.specs.States.{Bytes, Items}
 use Rattle.c_slave.specs.declared.content.Content.{Content}
 use Rattle.c_engine.specs.declared.status.Status.{Status}
 use Rattle.c_engine.specs.declared.status.Status.TheVariants as status
@@ -20,72 +18,62 @@ pub record ShownRoom : Type 0 where
   pub buffer : List ℕ
   pub len : ℕ
 
-module _ {S T F : Type 0} (take : TakeGhosts T F) where
-  -- what a slave does with bytes of a stream, if it isn't spent; how many it took is told
-  abbrev pub ReceivesBytes
-      : LendingSlaveState S T → LendingSlaveState S T → List ℕ → Given → ℕ → ℕ → Status → Type 0
-  ReceivesBytes s t bytes given before after status.Ok =
-      (is_spent s.slave ≡ false) × TakesBytes take s t given bytes after
-  ReceivesBytes s t bytes given before after status.BadFrame =
-      (is_spent s.slave ≡ false) × RefusesBytes take s t given bytes × (after ≡ before)
-  ReceivesBytes s t bytes given before after status.Spent =
-      (is_spent s.slave ≡ true) × (t ≡ s) × (after ≡ before)
-  ReceivesBytes s t bytes given before after _ = ⊥
+-- what a slave does with bytes of a stream, if it isn't spent; how many it took is told
+abbrev pub ReceivesBytes
+    : LendingSlaveState → LendingSlaveState → List ℕ → Given → ℕ → ℕ → Status → Type 0
+ReceivesBytes s t bytes given before after status.Ok =
+    (is_spent s.slave ≡ false) × TakesBytes s t given bytes after
+ReceivesBytes s t bytes given before after status.BadFrame =
+    (is_spent s.slave ≡ false) × RefusesBytes s t given bytes × (after ≡ before)
+ReceivesBytes s t bytes given before after status.Spent =
+    (is_spent s.slave ≡ true) × (t ≡ s) × (after ≡ before)
+ReceivesBytes s t bytes given before after _ = ⊥
 
-  -- what it does with a datagram
-  abbrev pub ReceivesDatagram
-      : LendingSlaveState S T → LendingSlaveState S T → List ℕ → Given → ℕ → ℕ → Status → Type 0
-  ReceivesDatagram s t bytes given before after status.Ok =
-      (is_spent s.slave ≡ false) × HearsBytes take s t given bytes after
-  ReceivesDatagram s t bytes given before after status.Spent =
-      (is_spent s.slave ≡ true) × (t ≡ s) × (after ≡ before)
-  ReceivesDatagram s t bytes given before after _ = ⊥
+-- what it does with a datagram
+abbrev pub ReceivesDatagram
+    : LendingSlaveState → LendingSlaveState → List ℕ → Given → ℕ → ℕ → Status → Type 0
+ReceivesDatagram s t bytes given before after status.Ok =
+    (is_spent s.slave ≡ false) × HearsBytes s t given bytes after
+ReceivesDatagram s t bytes given before after status.Spent =
+    (is_spent s.slave ≡ true) × (t ≡ s) × (after ≡ before)
+ReceivesDatagram s t bytes given before after _ = ⊥
 
-  -- what it shows of what waits
-  abbrev pub ShowsWaiting
-      : LendingSlaveState S T → LendingSlaveState S T → ShownRoom → ShownRoom → Status → Type 0
-  ShowsWaiting s t before after status.Ok =
-      (least_peek s.slave.session.profile ≤ length before.buffer)
-      × Peeks take s t before.buffer after.buffer after.len
-  ShowsWaiting s t before after status.SmallBuffer =
-      (length before.buffer < least_peek s.slave.session.profile) × (t ≡ s) × (after ≡ before)
-  ShowsWaiting s t before after _ = ⊥
+-- what it shows of what waits
+abbrev pub ShowsWaiting
+    : LendingSlaveState → LendingSlaveState → ShownRoom → ShownRoom → Status → Type 0
+ShowsWaiting s t before after status.Ok =
+    (least_peek s.slave.session.profile ≤ length before.buffer)
+    × Peeks s t before.buffer after.buffer after.len
+ShowsWaiting s t before after status.SmallBuffer =
+    (length before.buffer < least_peek s.slave.session.profile) × (t ≡ s) × (after ≡ before)
+ShowsWaiting s t before after _ = ⊥
 
-module _ (items : Items) (bytes : Bytes) where
-  -- what ng_slave_receive does to a handle
-  abbrev pub Receives
-      : Option Content → Option Content → List ℕ → Given → ℕ → ℕ → Status → Type 0
-  Receives old new packets given before after result =
-      OnSlave old new result (after ≡ before)
-      (λ s t. ReceivesBytes items.give s t packets given before after result)
-      (λ s t. ReceivesBytes bytes.give s t packets given before after result)
+-- what ng_slave_receive does to a handle
+abbrev pub Receives
+    : Option Content → Option Content → List ℕ → Given → ℕ → ℕ → Status → Type 0
+Receives old new packets given before after result =
+    OnSlave old new result (after ≡ before)
+    (λ s t. ReceivesBytes s t packets given before after result)
 
-  -- what ng_slave_datagram does to a handle
-  abbrev pub HearsDatagrams
-      : Option Content → Option Content → List ℕ → Given → ℕ → ℕ → Status → Type 0
-  HearsDatagrams old new packets given before after result =
-      OnSlave old new result (after ≡ before)
-      (λ s t. ReceivesDatagram items.give s t packets given before after result)
-      (λ s t. ReceivesDatagram bytes.give s t packets given before after result)
+-- what ng_slave_datagram does to a handle
+abbrev pub HearsDatagrams
+    : Option Content → Option Content → List ℕ → Given → ℕ → ℕ → Status → Type 0
+HearsDatagrams old new packets given before after result =
+    OnSlave old new result (after ≡ before)
+    (λ s t. ReceivesDatagram s t packets given before after result)
 
-  -- what ng_slave_hang_up does to a handle
-  abbrev pub HangsUpSlave : Option Content → Option Content → Status → Type 0
-  HangsUpSlave old new result =
-      OnSlave old new result (Unit {0})
-      (λ s t. (result ≡ status.Ok) × HangsUp items.give s t)
-      (λ s t. (result ≡ status.Ok) × HangsUp bytes.give s t)
+-- what ng_slave_hang_up does to a handle
+abbrev pub HangsUpSlave : Option Content → Option Content → Status → Type 0
+HangsUpSlave old new result =
+    OnSlave old new result (Unit {0}) (λ s t. (result ≡ status.Ok) × HangsUp s t)
 
-  -- what ng_slave_peek does to a handle
-  abbrev pub PeeksSlave
-      : Option Content → Option Content → ShownRoom → ShownRoom → Status → Type 0
-  PeeksSlave old new before after result =
-      OnSlave old new result (after ≡ before)
-      (λ s t. ShowsWaiting items.give s t before after result)
-      (λ s t. ShowsWaiting bytes.give s t before after result)
+-- what ng_slave_peek does to a handle
+abbrev pub PeeksSlave
+    : Option Content → Option Content → ShownRoom → ShownRoom → Status → Type 0
+PeeksSlave old new before after result =
+    OnSlave old new result (after ≡ before) (λ s t. ShowsWaiting s t before after result)
 
-  -- what ng_slave_sent does to a handle
-  abbrev pub SendsSlave : Option Content → Option Content → Status → Type 0
-  SendsSlave old new result =
-      OnSlave old new result (Unit {0})
-      (λ s t. (result ≡ status.Ok) × Sends items.give s t)
-      (λ s t. (result ≡ status.Ok) × Sends bytes.give s t)
+-- what ng_slave_sent does to a handle
+abbrev pub SendsSlave : Option Content → Option Content → Status → Type 0
+SendsSlave old new result =
+    OnSlave old new result (Unit {0}) (λ s t. (result ≡ status.Ok) × Sends s t)

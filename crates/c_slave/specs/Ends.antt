@@ -2,11 +2,7 @@
 use Rattle.std.specs.Prelude.{◌≡◌, ◌⊎◌, ℕ, ◌<◌, ◌≤◌, Bool, List, length, slice_get}
 use Rattle.std.specs.Prelude.{Option, Some, None}
 use Rattle.xcp_base.specs.declared.limits.TheConstants.{MAX_LISTS}
-use Rattle.channel_ring.specs.declared.ends.SendEnd.{Ghosts as SendGhosts}
-use Rattle.channel_ring.specs.declared.ends.RingEnd.{Ghosts as EndGhosts}
-use Rattle.channel_ring.specs.declared.ends.TakeEnd.{Ghosts as TakeGhosts}
 use Rattle.daq_engine.specs.declared.report.ListReport.{ListReport}
-use Rattle.c_engine.specs.States.{Bytes, Items}
 use Rattle.c_slave.specs.declared.content.Content.{Content}
 use Rattle.c_slave.specs.declared.content.Content.TheVariants as held
 use Rattle.c_engine.specs.declared.status.Status.{Status}
@@ -17,7 +13,6 @@ use Rattle.slave.specs.declared.complete.Complete.{Complete}
 use Rattle.slave_lending.specs.Lends.{Closes, Collects, NoneAway, SomeAway}
 use Rattle.slave_lending.specs.States.{LendingSlaveState}
 use Rattle.c_slave.specs.Measurements.{TellsEach}
-use Rattle.c_slave.specs.OnHandles.{ByteSlave, ItemSlave}
 use Rattle.c_slave.specs.declared.measurements_out.MeasurementsOut.{MeasurementsOut}
 
 -- the room for the lines of an account, for whether the account is whole, and for the accounts of
@@ -42,63 +37,51 @@ pub record HasLines (is : ℕ → ListReport → Type 0) (n : ℕ) (before after
       → (line : ListReport) × (slice_get after l ≡ Some line) × is l line
   pub behind : (k : ℕ) → n ≤ k → slice_get after k ≡ slice_get before k
 
-module _ {S T : Type 0} where
-  -- a slave may be closed with so much room for lines: no task is away
-  abbrev pub MayClose : LendingSlaveState S T → LendingSlaveState S T → ℕ → Type 0
-  MayClose s t room = Collects s t × NoneAway t × (MAX_LISTS ≤ room)
+-- a slave may be closed with so much room for lines: no task is away
+abbrev pub MayClose : LendingSlaveState → LendingSlaveState → ℕ → Type 0
+MayClose s t room = Collects s t × NoneAway t × (MAX_LISTS ≤ room)
 
-  -- why it stays open
-  abbrev pub StaysOpen : LendingSlaveState S T → LendingSlaveState S T → ℕ → Status → Type 0
-  StaysOpen s t room status.SmallBuffer = (room < MAX_LISTS) × (t ≡ s)
-  StaysOpen s t room status.Unfinished = (MAX_LISTS ≤ room) × Collects s t × SomeAway t
-  StaysOpen s t room _ = ⊥
+-- why it stays open
+abbrev pub StaysOpen : LendingSlaveState → LendingSlaveState → ℕ → Status → Type 0
+StaysOpen s t room status.SmallBuffer = (room < MAX_LISTS) × (t ≡ s)
+StaysOpen s t room status.Unfinished = (MAX_LISTS ≤ room) × Collects s t × SomeAway t
+StaysOpen s t room _ = ⊥
 
-module _ {S E T F : Type 0} (send : SendGhosts S E) (ring : EndGhosts E) (take : TakeGhosts T F)
-  where
-    -- the account of the session is told: a line for each list that there may be; and so are those
-    -- of the last measurements
-    pub record TellsAccount (s : LendingSlaveState S T) (before after : AccountRoom)
-        : Type 0 where
-      -- fixed by `closes`
-      pub account : AccountState
-      pub complete : Complete
-      pub closes : Closes send ring take s account after.whole complete
-      pub lines : HasLines (IsLineIn account) MAX_LISTS before.lines after.lines
-      pub each : TellsEach account complete after.each
+-- the account of the session is told: a line for each list that there may be; and so are those
+-- of the last measurements
+pub record TellsAccount (s : LendingSlaveState) (before after : AccountRoom) : Type 0 where
+  -- fixed by `closes`
+  pub account : AccountState
+  pub complete : Complete
+  pub closes : Closes s account after.whole complete
+  pub lines : HasLines (IsLineIn account) MAX_LISTS before.lines after.lines
+  pub each : TellsEach account complete after.each
 
-    -- a slave is given up with its account
-    abbrev pub ClosesSlave : LendingSlaveState S T → AccountRoom → AccountRoom → Type 0
-    ClosesSlave s before after =
-        (t : LendingSlaveState S T) × Collects s t × NoneAway t × TellsAccount t before after
+-- a slave is given up with its account
+abbrev pub ClosesSlave : LendingSlaveState → AccountRoom → AccountRoom → Type 0
+ClosesSlave s before after =
+    (t : LendingSlaveState) × Collects s t × NoneAway t × TellsAccount t before after
 
 -- why what is held stays, if it is to be closed with so much room for lines
 abbrev pub StaysHeld : Option Content → Option Content → ℕ → Status → Type 0
 StaysHeld (Some (held.Slave s)) new room result =
-    (t : ItemSlave) × (new ≡ Some (held.Slave t)) × StaysOpen s t room result
-StaysHeld (Some (held.ByteSlave s)) new room result =
-    (t : ByteSlave) × (new ≡ Some (held.ByteSlave t)) × StaysOpen s t room result
+    (t : LendingSlaveState) × (new ≡ Some (held.Slave t)) × StaysOpen s t room result
 StaysHeld old new room result = (result ≡ status.Empty) × (new ≡ old)
 
 -- what is held is a slave that may be closed
 abbrev pub MayCloseHeld : Content → Content → ℕ → Type 0
 MayCloseHeld (held.Slave s) new room =
-    (t : ItemSlave) × (new ≡ held.Slave t) × MayClose s t room
-MayCloseHeld (held.ByteSlave s) new room =
-    (t : ByteSlave) × (new ≡ held.ByteSlave t) × MayClose s t room
+    (t : LendingSlaveState) × (new ≡ held.Slave t) × MayClose s t room
 MayCloseHeld old new room = ⊥
 
-module _ (items : Items) (bytes : Bytes) where
-  -- the slave that is held is given up
-  abbrev pub ClosesHeld : Option Content → AccountRoom → AccountRoom → Type 0
-  ClosesHeld (Some (held.Slave s)) before after =
-      ClosesSlave items.send items.ring items.give s before after
-  ClosesHeld (Some (held.ByteSlave s)) before after =
-      ClosesSlave bytes.send bytes.ring bytes.give s before after
-  ClosesHeld old before after = ⊥
+-- the slave that is held is given up
+abbrev pub ClosesHeld : Option Content → AccountRoom → AccountRoom → Type 0
+ClosesHeld (Some (held.Slave s)) before after = ClosesSlave s before after
+ClosesHeld old before after = ⊥
 
-  -- what ng_slave_close does to a handle
-  abbrev pub ClosesSlaveOf
-      : Option Content → Option Content → AccountRoom → AccountRoom → Status → Type 0
-  ClosesSlaveOf old new before after result =
-      ((result ≡ status.Ok) × (new ≡ None) × ClosesHeld old before after)
-      ⊎ (StaysHeld old new (length before.lines) result × (after ≡ before))
+-- what ng_slave_close does to a handle
+abbrev pub ClosesSlaveOf
+    : Option Content → Option Content → AccountRoom → AccountRoom → Status → Type 0
+ClosesSlaveOf old new before after result =
+    ((result ≡ status.Ok) × (new ≡ None) × ClosesHeld old before after)
+    ⊎ (StaysHeld old new (length before.lines) result × (after ≡ before))

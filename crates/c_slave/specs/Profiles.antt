@@ -1,7 +1,7 @@
 -- The profile that C asks for.
 use Rattle.std.specs.Prelude.{◌≡◌, ◌≢◌, ◌⊎◌, ℕ, ◌==◌, if◌then◌else◌, List, [], ◌∷◌, map}
 use Rattle.std.specs.Prelude.{Some, None}
-use Rattle.c_engine.specs.Kinds.{kind_of, ring_of}
+use Rattle.c_engine.specs.Kinds.{kind_of}
 use Rattle.c_engine.specs.declared.status.Status.{Status}
 use Rattle.c_engine.specs.declared.status.Status.TheVariants as status
 use Rattle.segments.specs.declared.segment.Segment.{Segment}
@@ -59,7 +59,6 @@ pub record IsProfileOf (p : ProfileIn) (segments : List SegmentIn) (events : Lis
   pub unit : d.unit ≡ p.unit
   pub ticks : d.ticks ≡ p.ticks
   pub max_cto : d.max_cto ≡ p.max_cto
-  pub rings : ring_of p.ring ≡ Some d.ring
   pub name : d.name.items ≡ text_of p.name
   pub channels : map told_of d.events.items ≡ map told_in events
   pub a2l_name : d.a2l_name.items ≡ text_of p.a2l_name
@@ -73,13 +72,11 @@ pub record IsGoodProfileOf (p : ProfileIn) (segments : List SegmentIn) (events :
   pub is : IsProfileOf p segments events a2l d
   pub within : profile_fault d ≡ None
 
--- there is no such identification field, or no such kind of rings; or else the profile is out of a
--- limit
+-- there is no such identification field; or else the profile is out of a limit
 abbrev pub IsOutOfLimits : ProfileIn → List SegmentIn → List EventIn → List ℕ → Type 0
 IsOutOfLimits p segments events a2l =
     (kind_of p.id ≡ None)
-    ⊎ ((ring_of p.ring ≡ None)
-    ⊎ ((d : Profile) × IsProfileOf p segments events a2l d × (profile_fault d ≢ None)))
+    ⊎ ((d : Profile) × IsProfileOf p segments events a2l d × (profile_fault d ≢ None))
 
 -- why there is no profile
 abbrev pub RefusesProfile

@@ -6,24 +6,21 @@ ghost use Rattle.c_slave.specs.Bytes.{ReceivesDatagram, given_by};
 
 use crate::content::Content;
 use crate::handle::Handle;
-use byte_ring::ByteRing;
-use c_engine::{HeldRing, Status};
-use channel_ring::SampleRing;
-use daq_engine::Ring;
+use c_engine::Status;
 use slave_lending::LendingSlave;
 use std::alloc::Global;
 
 /// Takes bytes of a stream, with a slice for each segment that is there, in their order.
-fn receive<R: Ring>(
+fn receive(
     alloc: Global,
-    slave: &mut LendingSlave<R>,
+    slave: &mut LendingSlave,
     bytes: &[u8],
     clock: u32,
     memory: &[&[u8]],
     taken: &mut usize,
 ) -> Status
-    ensures { ReceivesBytes R.Take.TakeEnd slave.old slave.new bytes.now
-        (given_by clock memory.now) taken.old taken.new result }
+    ensures { ReceivesBytes slave.old slave.new bytes.now (given_by clock memory.now)
+        taken.old taken.new result }
 {
     if slave.is_spent() {
         return Status::Spent;
@@ -46,13 +43,11 @@ fn receive_in(
     memory: &[&[u8]],
     taken: &mut usize,
 ) -> Status
-    ensures { Receives ⟦<SampleRing as HeldRing>⟧.rings ⟦<ByteRing as HeldRing>⟧.rings
-        (Some content.old) (Some content.new) bytes.now (given_by clock memory.now)
+    ensures { Receives (Some content.old) (Some content.new) bytes.now (given_by clock memory.now)
         taken.old taken.new result }
 {
     match content {
         Content::Slave(slave) => receive(alloc, slave, bytes, clock, memory, taken),
-        Content::ByteSlave(slave) => receive(alloc, slave, bytes, clock, memory, taken),
         _ => Status::Empty,
     }
 }
@@ -66,8 +61,7 @@ pub fn receive_by(
     memory: &[&[u8]],
     taken: &mut usize,
 ) -> Status
-    ensures { Receives ⟦<SampleRing as HeldRing>⟧.rings ⟦<ByteRing as HeldRing>⟧.rings
-        handle.old.held handle.new.held bytes.now (given_by clock memory.now)
+    ensures { Receives handle.old.held handle.new.held bytes.now (given_by clock memory.now)
         taken.old taken.new result }
 {
     let Some(mut held) = handle.take(alloc) else {
@@ -79,16 +73,16 @@ pub fn receive_by(
 }
 
 /// Hears the frames of a datagram.
-fn hear<R: Ring>(
+fn hear(
     alloc: Global,
-    slave: &mut LendingSlave<R>,
+    slave: &mut LendingSlave,
     bytes: &[u8],
     clock: u32,
     memory: &[&[u8]],
     taken: &mut usize,
 ) -> Status
-    ensures { ReceivesDatagram R.Take.TakeEnd slave.old slave.new bytes.now
-        (given_by clock memory.now) taken.old taken.new result }
+    ensures { ReceivesDatagram slave.old slave.new bytes.now (given_by clock memory.now)
+        taken.old taken.new result }
 {
     if slave.is_spent() {
         return Status::Spent;
@@ -106,13 +100,11 @@ fn datagram_in(
     memory: &[&[u8]],
     taken: &mut usize,
 ) -> Status
-    ensures { HearsDatagrams ⟦<SampleRing as HeldRing>⟧.rings ⟦<ByteRing as HeldRing>⟧.rings
-        (Some content.old) (Some content.new) bytes.now (given_by clock memory.now)
-        taken.old taken.new result }
+    ensures { HearsDatagrams (Some content.old) (Some content.new) bytes.now
+        (given_by clock memory.now) taken.old taken.new result }
 {
     match content {
         Content::Slave(slave) => hear(alloc, slave, bytes, clock, memory, taken),
-        Content::ByteSlave(slave) => hear(alloc, slave, bytes, clock, memory, taken),
         _ => Status::Empty,
     }
 }
@@ -126,8 +118,7 @@ pub fn datagram_by(
     memory: &[&[u8]],
     taken: &mut usize,
 ) -> Status
-    ensures { HearsDatagrams ⟦<SampleRing as HeldRing>⟧.rings ⟦<ByteRing as HeldRing>⟧.rings
-        handle.old.held handle.new.held bytes.now (given_by clock memory.now)
+    ensures { HearsDatagrams handle.old.held handle.new.held bytes.now (given_by clock memory.now)
         taken.old taken.new result }
 {
     let Some(mut held) = handle.take(alloc) else {
@@ -140,12 +131,10 @@ pub fn datagram_by(
 
 /// Hangs up by a slave, if this is one.
 fn hang_up_in(content: &mut Content) -> Status
-    ensures { HangsUpSlave ⟦<SampleRing as HeldRing>⟧.rings ⟦<ByteRing as HeldRing>⟧.rings
-        (Some content.old) (Some content.new) result }
+    ensures { HangsUpSlave (Some content.old) (Some content.new) result }
 {
     match content {
         Content::Slave(slave) => slave.hang_up(),
-        Content::ByteSlave(slave) => slave.hang_up(),
         _ => return Status::Empty,
     }
     Status::Ok
@@ -153,8 +142,7 @@ fn hang_up_in(content: &mut Content) -> Status
 
 /// Hangs up by the slave of a handle.
 pub fn hang_up_by(alloc: Global, handle: &mut Handle) -> Status
-    ensures { HangsUpSlave ⟦<SampleRing as HeldRing>⟧.rings ⟦<ByteRing as HeldRing>⟧.rings
-        handle.old.held handle.new.held result }
+    ensures { HangsUpSlave handle.old.held handle.new.held result }
 {
     let Some(mut held) = handle.take(alloc) else {
         return Status::Empty;

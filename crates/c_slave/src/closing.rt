@@ -10,25 +10,23 @@ use crate::content::Content;
 use crate::handle::Handle;
 use crate::measurements_out::MeasurementsOut;
 use crate::telling::{each_of, tell};
-use byte_ring::ByteRing;
-use c_engine::{HeldRing, Status};
-use channel_ring::{SampleRing, SendEnd, TakeEnd};
-use daq_engine::{ListReport, Ring};
+use c_engine::Status;
+use daq_engine::ListReport;
 use slave::Closed;
 use slave_lending::LendingSlave;
 use std::alloc::Global;
 use xcp_base::limits::MAX_LISTS;
 
 /// Closes a slave, and tells its account.
-fn close<R: Ring>(
-    slave: LendingSlave<R>,
+fn close(
+    slave: LendingSlave,
     lines: &mut [ListReport],
     whole: &mut bool,
     each: &mut MeasurementsOut,
 )
     requires none_away { NoneAway slave }
     requires room { MOST_LISTS ≤ length lines.old }
-    ensures { TellsAccount R.Send.SendEnd R.Send.End.RingEnd R.Take.TakeEnd slave
+    ensures { TellsAccount slave
         (record { lines = lines.old; whole = whole.old; each = each.old })
         (record { lines = lines.new; whole = whole.new; each = each.new }) }
 {
@@ -43,7 +41,7 @@ fn close<R: Ring>(
 }
 
 /// Whether a slave may be closed with so much room for lines, since no task is away; or why not.
-fn may_close<R: Ring>(slave: &mut LendingSlave<R>, room: usize) -> Result<(), Status>
+fn may_close(slave: &mut LendingSlave, room: usize) -> Result<(), Status>
     ensures ok { OnOk result (MayClose slave.old slave.new room) }
     ensures err { IfErr result (StaysOpen slave.old slave.new room) }
 {
@@ -63,7 +61,6 @@ fn may_close_in(content: &mut Content, room: usize) -> Result<(), Status>
 {
     match content {
         Content::Slave(slave) => may_close(slave, room),
-        Content::ByteSlave(slave) => may_close(slave, room),
         _ => Err(Status::Empty),
     }
 }
@@ -76,8 +73,7 @@ pub fn close_slave_by(
     whole: &mut bool,
     each: &mut MeasurementsOut,
 ) -> Status
-    ensures { ClosesSlaveOf ⟦<SampleRing as HeldRing>⟧.rings ⟦<ByteRing as HeldRing>⟧.rings
-        handle.old.held handle.new.held
+    ensures { ClosesSlaveOf handle.old.held handle.new.held
         (record { lines = lines.old; whole = whole.old; each = each.old })
         (record { lines = lines.new; whole = whole.new; each = each.new }) result }
 {
@@ -90,7 +86,6 @@ pub fn close_slave_by(
     }
     match Box::into_inner(held) {
         Content::Slave(slave) => close(slave, lines, whole, each),
-        Content::ByteSlave(slave) => close(slave, lines, whole, each),
         _ => unreachable!(),
     }
     Status::Ok

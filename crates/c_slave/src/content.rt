@@ -1,23 +1,17 @@
 //! What a handle of a slave or a task holds.
 ghost use Rattle.std.specs.Prelude.{◌≡◌, IfErr, IfOk};
 
-use byte_ring::{ByteRing, ByteSend};
 use c_engine::Status;
-use channel_ring::{SampleRing, SendHalf};
 use slave_lending::{LendingSlave, LentTask};
 use std::alloc::Global;
 
 /// What a handle of a slave or of its tasks may hold.
 #[derive(Drop)]
 pub enum Content {
-    /// A slave over rings of items.
-    Slave(LendingSlave<SampleRing>),
-    /// The task of an event channel, over a ring of items.
-    Task(LentTask<SendHalf>),
-    /// A slave over rings of bytes.
-    ByteSlave(LendingSlave<ByteRing>),
-    /// The task of an event channel, over a ring of bytes.
-    ByteTask(LentTask<ByteSend>),
+    /// A slave.
+    Slave(LendingSlave),
+    /// The task of an event channel.
+    Task(LentTask),
 }
 
 impl Content {

@@ -1,15 +1,12 @@
 //! The tasks of a slave, handed out by their event channels.
 
 ghost use Rattle.std.specs.Prelude.{◌≡◌, IfErr, None, OnErr, OnOk, Some};
-ghost use Rattle.c_slave.specs.declared.content.Content.TheVariants as held;
 ghost use Rattle.c_slave.specs.OnHandles.{OnSlave};
 ghost use Rattle.c_slave.specs.Tasks.{GivesTask, LendsInto, status_of};
 
 use crate::content::Content;
 use crate::handle::Handle;
-use byte_ring::ByteRing;
 use c_engine::Status;
-use channel_ring::SampleRing;
 use slave_lending::{LendFault, LendingSlave};
 use std::alloc::Global;
 
@@ -39,10 +36,10 @@ fn put_in(alloc: Global, given: Content, handle: &mut Handle) -> Result<(), Cont
     }
 }
 
-/// Hands the task of event channel `c` out over a ring of items, into an empty handle.
-fn lend(alloc: Global, slave: &mut LendingSlave<SampleRing>, c: usize, task: &mut Handle) -> Status
+/// Hands the task of event channel `c` of a slave out, into an empty handle.
+fn lend(alloc: Global, slave: &mut LendingSlave, c: usize, task: &mut Handle) -> Status
     requires empty { task.old.held ≡ None }
-    ensures { LendsInto held.Task slave.old slave.new c task.new.held result }
+    ensures { LendsInto slave.old slave.new c task.new.held result }
 {
     let lent = match slave.lend(alloc, c) {
         Ok(lent) => lent,
@@ -60,42 +57,14 @@ fn lend(alloc: Global, slave: &mut LendingSlave<SampleRing>, c: usize, task: &mu
     }
 }
 
-/// Hands the task of event channel `c` out over a ring of bytes, into an empty handle.
-fn lend_bytes(
-    alloc: Global,
-    slave: &mut LendingSlave<ByteRing>,
-    c: usize,
-    task: &mut Handle,
-) -> Status
-    requires empty { task.old.held ≡ None }
-    ensures { LendsInto held.ByteTask slave.old slave.new c task.new.held result }
-{
-    let lent = match slave.lend(alloc, c) {
-        Ok(lent) => lent,
-        Err(fault) => return status_of(fault),
-    };
-    match put_in(alloc, Content::ByteTask(lent), task) {
-        Ok(()) => Status::Ok,
-        Err(back) => {
-            let Content::ByteTask(lent) = back else {
-                unreachable!()
-            };
-            slave.take_back(c, lent);
-            Status::Memory
-        }
-    }
-}
-
 /// Hands the task of event channel `c` of what is held out, if it is a slave.
 fn lend_of(alloc: Global, content: &mut Content, c: usize, task: &mut Handle) -> Status
     requires empty { task.old.held ≡ None }
     ensures { OnSlave (Some content.old) (Some content.new) result (task.new.held ≡ None)
-        (λ s t. LendsInto held.Task s t c task.new.held result)
-        (λ s t. LendsInto held.ByteTask s t c task.new.held result) }
+        (λ s t. LendsInto s t c task.new.held result) }
 {
     match content {
         Content::Slave(slave) => lend(alloc, slave, c, task),
-        Content::ByteSlave(slave) => lend_bytes(alloc, slave, c, task),
         _ => Status::Empty,
     }
 }

@@ -5,7 +5,6 @@
 mod byte_calls;
 mod closing;
 mod content;
-mod given_back;
 mod handle;
 mod lending;
 mod measurements_out;
@@ -21,7 +20,6 @@ mod telling;
 pub use byte_calls::{datagram_by, hang_up_by, receive_by};
 pub use closing::close_slave_by;
 pub use content::Content;
-pub use given_back::GivenBack;
 pub use handle::Handle;
 pub use lending::give_task;
 pub use measurements_out::{MeasurementOut, MeasurementsOut};

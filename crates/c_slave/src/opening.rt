@@ -7,30 +7,19 @@ use crate::content::Content;
 use crate::handle::Handle;
 use crate::profile_in::{EventIn, ProfileIn, SegmentIn};
 use crate::profiles::good_profile;
-use byte_ring::ByteRing;
-use c_engine::{HeldRing, Status};
-use channel_ring::SampleRing;
+use c_engine::Status;
 use session::Profile;
 use slave_lending::LendingSlave;
 use std::alloc::Global;
-use xcp_base::RingKind;
 
-/// A slave with this profile, over its kind of rings, as a handle holds it.
+/// A slave with this profile, as a handle holds it.
 fn opened_as(alloc: Global, profile: Profile) -> Result<Content, Status>
-    ensures ok { IfOk result
-        (IsSlaveOf ⟦<SampleRing as HeldRing>⟧.rings ⟦<ByteRing as HeldRing>⟧.rings
-        profile.ring profile) }
+    ensures ok { IfOk result (IsSlaveOf profile) }
     ensures err { IfErr result (λ status. status ≡ Status.Memory) }
 {
-    match profile.ring {
-        RingKind::Samples => match LendingSlave::<SampleRing>::open(alloc, profile) {
-            Ok(slave) => Ok(Content::Slave(slave)),
-            Err(_) => Err(Status::Memory),
-        },
-        RingKind::Bytes => match LendingSlave::<ByteRing>::open(alloc, profile) {
-            Ok(slave) => Ok(Content::ByteSlave(slave)),
-            Err(_) => Err(Status::Memory),
-        },
+    match LendingSlave::open(alloc, profile) {
+        Ok(slave) => Ok(Content::Slave(slave)),
+        Err(_) => Err(Status::Memory),
     }
 }
 
@@ -42,9 +31,8 @@ fn opened_on_heap(
     events: &[EventIn],
     a2l: &[u8],
 ) -> Result<Box<Content>, Status>
-    ensures ok { IfOk result (λ it.
-        SlaveOf ⟦<SampleRing as HeldRing>⟧.rings ⟦<ByteRing as HeldRing>⟧.rings
-        asked.now segments.now events.now a2l.now it.value) }
+    ensures ok { IfOk result
+        (λ it. SlaveOf asked.now segments.now events.now a2l.now it.value) }
     ensures err { IfErr result (RefusesProfile asked.now segments.now events.now a2l.now) }
 {
     let profile = good_profile(alloc, asked, segments, events, a2l)?;
@@ -61,8 +49,8 @@ pub fn open_slave(
     a2l: &[u8],
     slave: &mut Handle,
 ) -> Status
-    ensures { OpensSlave ⟦<SampleRing as HeldRing>⟧.rings ⟦<ByteRing as HeldRing>⟧.rings
-        slave.old.held slave.new.held asked.now segments.now events.now a2l.now result }
+    ensures { OpensSlave slave.old.held slave.new.held
+        asked.now segments.now events.now a2l.now result }
 {
     if let Some(held) = slave.take(alloc) {
         slave.put(alloc, held);

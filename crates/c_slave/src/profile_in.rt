@@ -6,7 +6,7 @@ pub const NAME_PLACES: usize = 57;
 #[repr(C)]
 #[derive(Clone, Copy)]
 pub struct EventIn {
-    /// The capacity of its ring, in the units of the ring's kind.
+    /// The capacity of its ring, in bytes.
     pub capacity: usize,
     /// Its name, up to the first zero byte.
     pub name: [u8; NAME_PLACES],
@@ -38,8 +38,6 @@ pub struct SegmentIn {
 pub struct ProfileIn {
     /// The number of the identification field, as in `ng_id_kind`.
     pub id: u32,
-    /// The number of the kind of rings, as in `ng_ring`.
-    pub ring: u32,
     /// So many units are one tick of a timestamp.
     pub ticks: u16,
     /// The unit of a timestamp.

@@ -4,7 +4,7 @@ ghost use Rattle.c_slave.specs.Profiles.{IsGoodProfileOf, IsProfileOf, RefusesPr
 ghost use Rattle.c_slave.specs.Profiles.{segment_in, text_of, told_in, told_of};
 
 use crate::profile_in::{EventIn, ProfileIn, SegmentIn};
-use c_engine::{Status, kind_numbered, ring_numbered};
+use c_engine::{Status, kind_numbered};
 use segments::Segment;
 use session::{EventChannel, Profile};
 use std::alloc::{AllocError, Global};
@@ -96,7 +96,7 @@ fn segments_of(alloc: Global, segments: &[SegmentIn]) -> Result<Vec<Segment>, Al
     Ok(made)
 }
 
-/// The profile that is asked for, if there are such an identification field and such rings.
+/// The profile that is asked for, if there is such an identification field.
 fn profile_of(
     alloc: Global,
     asked: &ProfileIn,
@@ -108,9 +108,6 @@ fn profile_of(
     ensures err { IfErr result (RefusesProfile asked.now segments.now events.now a2l.now) }
 {
     let Some(id) = kind_numbered(asked.id) else {
-        return Err(Status::BadLimits);
-    };
-    let Some(ring) = ring_numbered(asked.ring) else {
         return Err(Status::BadLimits);
     };
     let Ok(name) = text_of(alloc, &asked.name) else {
@@ -132,7 +129,6 @@ fn profile_of(
         unit: asked.unit,
         ticks: asked.ticks,
         max_cto: asked.max_cto,
-        ring,
         name,
         events,
         a2l_name,

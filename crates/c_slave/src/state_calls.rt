@@ -7,12 +7,11 @@ use crate::content::Content;
 use crate::handle::Handle;
 use crate::state_out::StateOut;
 use c_engine::Status;
-use daq_engine::Ring;
 use slave_lending::LendingSlave;
 use std::alloc::Global;
 
 /// What a slave is about.
-fn state_of<R: Ring>(slave: &LendingSlave<R>) -> StateOut
+fn state_of(slave: &LendingSlave) -> StateOut
     ensures { IsStateOf slave.now result }
 {
     StateOut {
@@ -28,7 +27,6 @@ fn tell_state(content: &Content, state: &mut StateOut) -> Status
 {
     match content {
         Content::Slave(slave) => *state = state_of(slave),
-        Content::ByteSlave(slave) => *state = state_of(slave),
         _ => return Status::Empty,
     }
     Status::Ok

@@ -5,24 +5,15 @@ ghost use Rattle.c_slave.specs.Tasks.{FinishesHeldBy, IsTask, TriggersHeldTask, 
 ghost use Rattle.c_slave.specs.Tasks.{parts, status_of_finish};
 
 use crate::content::Content;
-use crate::given_back::GivenBack;
 use crate::handle::Handle;
-use byte_ring::ByteRing;
-use c_engine::{HeldRing, Status, TakenOut};
-use channel_ring::{SampleRing, SendEnd};
+use c_engine::{Status, TakenOut};
 use sampler::MemoryFault;
-use slave_lending::LentTask;
+use slave_lending::{GivenTask, LentTask};
 use std::alloc::Global;
 
 /// Takes a trigger, with a slice for each segment, in their order.
-fn trigger<S: SendEnd>(
-    task: &mut LentTask<S>,
-    memory: &[&[u8]],
-    stamp: u32,
-    taken: &mut TakenOut,
-) -> Status
-    ensures { TriggersTask S.SendEnd S.End.RingEnd
-        task.old task.new (parts memory.now) stamp taken.old taken.new result }
+fn trigger(task: &mut LentTask, memory: &[&[u8]], stamp: u32, taken: &mut TakenOut) -> Status
+    ensures { TriggersTask task.old task.new (parts memory.now) stamp taken.old taken.new result }
 {
     match task.trigger(memory, stamp) {
         Ok(sets) => {
@@ -36,12 +27,11 @@ fn trigger<S: SendEnd>(
 
 /// Takes a trigger by a task, if this is one.
 fn trigger_in(content: &mut Content, memory: &[&[u8]], stamp: u32, taken: &mut TakenOut) -> Status
-    ensures { TriggersHeldTask ⟦<SampleRing as HeldRing>⟧.rings ⟦<ByteRing as HeldRing>⟧.rings
-        (Some content.old) (Some content.new) (parts memory.now) stamp taken.old taken.new result }
+    ensures { TriggersHeldTask (Some content.old) (Some content.new) (parts memory.now) stamp
+        taken.old taken.new result }
 {
     match content {
         Content::Task(task) => trigger(task, memory, stamp, taken),
-        Content::ByteTask(task) => trigger(task, memory, stamp, taken),
         _ => Status::Empty,
     }
 }
@@ -54,8 +44,8 @@ pub fn trigger_task_by(
     stamp: u32,
     taken: &mut TakenOut,
 ) -> Status
-    ensures { TriggersHeldTask ⟦<SampleRing as HeldRing>⟧.rings ⟦<ByteRing as HeldRing>⟧.rings
-        handle.old.held handle.new.held (parts memory.now) stamp taken.old taken.new result }
+    ensures { TriggersHeldTask handle.old.held handle.new.held (parts memory.now) stamp
+        taken.old taken.new result }
 {
     let Some(mut held) = handle.take(alloc) else {
         return Status::Empty;
@@ -69,14 +59,13 @@ pub fn trigger_task_by(
 fn holds_task(content: &Content) -> bool
     ensures { IsTrue result ↔ IsTask content.now }
 {
-    matches!(content, Content::Task(_) | Content::ByteTask(_))
+    matches!(content, Content::Task(_))
 }
 
 /// Finishes the task of a handle, and gives what is left of it back to its slave: the way on which
 /// it was given; or `Empty`, if there is no task.
-pub fn finish_task_by(alloc: Global, handle: &mut Handle) -> Result<GivenBack, Status>
-    ensures { FinishesHeldBy ⟦<SampleRing as HeldRing>⟧.rings ⟦<ByteRing as HeldRing>⟧.rings
-        handle.old.held handle.new.held result }
+pub fn finish_task_by(alloc: Global, handle: &mut Handle) -> Result<GivenTask, Status>
+    ensures { FinishesHeldBy handle.old.held handle.new.held result }
 {
     let Some(held) = handle.take(alloc) else {
         return Err(Status::Empty);
@@ -86,15 +75,14 @@ pub fn finish_task_by(alloc: Global, handle: &mut Handle) -> Result<GivenBack, S
         return Err(Status::Empty);
     }
     match Box::into_inner(held) {
-        Content::Task(task) => Ok(GivenBack::Items(task.finish())),
-        Content::ByteTask(task) => Ok(GivenBack::Bytes(task.finish())),
+        Content::Task(task) => Ok(task.finish()),
         _ => unreachable!(),
     }
 }
 
 /// What a finish is to C: what was given back is there for its slave, and this end of the way is
 /// freed.
-pub fn status_of_finish(finish: Result<GivenBack, Status>) -> Status
+pub fn status_of_finish(finish: Result<GivenTask, Status>) -> Status
     ensures { result ≡ status_of_finish finish }
 {
     match finish {

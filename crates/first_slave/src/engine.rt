@@ -2,13 +2,13 @@
 use segments::Segment;
 use session::{EventChannel, Profile};
 use std::alloc::{AllocError, Global};
-use xcp_base::{IdKind, RingKind};
+use xcp_base::IdKind;
 
-/// One event channel, whose ring has room for two samples, and timestamps of 4 bytes in
-/// microseconds.
+/// One event channel, and timestamps of 4 bytes in microseconds. Its ring has 64 bytes, room for
+/// two samples of 32: a head of 16, LEN and CTR, and a packet of 8, filled up to a multiple of 8.
 pub fn profile(alloc: Global) -> Result<Profile, AllocError> {
     let event = EventChannel {
-        capacity: 2,
+        capacity: 64,
         name: Vec::from_slice(alloc, b"1 ms")?,
         cycle: 1,
         cycle_unit: 6,
@@ -26,7 +26,6 @@ pub fn profile(alloc: Global) -> Result<Profile, AllocError> {
         stamp_size: 4,
         unit: 3,
         ticks: 1,
-        ring: RingKind::Samples,
         max_cto: 64,
         name: Vec::from_slice(alloc, b"engine")?,
         events: vec![in alloc; event]?,

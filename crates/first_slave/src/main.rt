@@ -11,7 +11,7 @@ mod engine;
 use crate::commands::{CONNECT, DISCONNECT, READ_SPEED, SET_UP};
 use crate::engine::{image, profile};
 use anyhow::{Result, bail};
-use channel_ring::{SampleRing, SendHalf};
+use frame_ring::FrameSend;
 use slave::{MasterStream, Slave};
 use std::alloc::Global;
 use tasks::Task;
@@ -38,7 +38,7 @@ fn main(rt: HostRuntime) -> Result<()> {
 
 /// What the slave sends while a master connects, measures and disconnects: a line of hexadecimal
 /// digits for each datagram.
-fn serve(alloc: Global, slave: &mut Slave<SampleRing>, task: &mut Task<SendHalf>) -> Result<String>
+fn serve(alloc: Global, slave: &mut Slave, task: &mut Task<FrameSend>) -> Result<String>
     ensures lines { OnOk result (KeepsLines slave.old slave.new) }
     ensures line { OnOk result (task.new.ring ≡ task.old.ring) }
 {
@@ -76,10 +76,10 @@ fn serve(alloc: Global, slave: &mut Slave<SampleRing>, task: &mut Task<SendHalf>
 }
 
 /// A slave with one event channel, and the task of that.
-fn open(alloc: Global) -> Result<(Slave<SampleRing>, Task<SendHalf>)>
+fn open(alloc: Global) -> Result<(Slave, Task<FrameSend>)>
     ensures one { IfOk result (λ made. rings_of made.0.channels ≡ made.1.ring ∷ []) }
 {
-    let (slave, mut tasks) = Slave::<SampleRing>::open(alloc, profile(alloc)?)?;
+    let (slave, mut tasks) = Slave::open(alloc, profile(alloc)?)?;
     let Some(task) = tasks.pop() else {
         bail!("there is no event channel");
     };
@@ -92,7 +92,7 @@ fn open(alloc: Global) -> Result<(Slave<SampleRing>, Task<SendHalf>)>
 /// The slave hears what came over the master's stream, with the memory as it is then.
 fn hear(
     alloc: Global,
-    slave: &mut Slave<SampleRing>,
+    slave: &mut Slave,
     master: &mut MasterStream,
     bytes: &[u8],
     clock: u32,
@@ -108,7 +108,7 @@ fn hear(
 }
 
 /// Sends what waits, as one datagram: here it is written in hexadecimal.
-fn send(slave: &mut Slave<SampleRing>, sent: &mut String) -> Result<()>
+fn send(slave: &mut Slave, sent: &mut String) -> Result<()>
     ensures lines { OnOk result (KeepsLines slave.old slave.new) }
 {
     slave.take();

@@ -1,17 +1,14 @@
 //! Frames are copied into the page, behind all that waits.
 ghost use Rattle.std.specs.Prelude.{◌≡◌, ℕ, ◌+◌, ◌*◌, ◌<◌, ◌≤◌, [], ◌∷◌, ◌++◌, List, length, take};
-ghost use Rattle.xcp_base.specs.Packets.{ArePackets};
-ghost use Rattle.xcp_base.specs.declared.limits.TheConstants.{MAX_ODTS, MAX_ODTS_IN_ALL};
-ghost use Rattle.frame_writer.specs.Frame.{frame, unnumbered};
-ghost use Rattle.frame_writer.specs.declared.layout.TheConstants.{MAX_SAMPLE_BYTES};
+ghost use Rattle.xcp_base.specs.declared.limits.TheConstants.{MAX_ODTS_IN_ALL};
+ghost use Rattle.frame_writer.specs.Frame.{frame};
 ghost use Rattle.frame_ring.specs.Records.{blocks_for};
 ghost use Rattle.frame_ring.specs.Sending.{AreFrames, AreFramesOf};
 
 use crate::page::FramePage;
 use crate::unit::Unit;
 use frame_ring::{BLOCK, first_blocks};
-use frame_writer::{MAX_SAMPLE_BYTES, place};
-use xcp_base::Packets;
+use frame_writer::place;
 
 impl<O: Copy> FramePage<O> {
     /// Copies so many frames behind all that waits: the first `len` of some bytes.
@@ -45,26 +42,6 @@ impl<O: Copy> FramePage<O> {
         });
         self.end = start + blocks;
     }
-
-    /// Lays a sample out behind all that waits, whose packets are there by value. It takes no
-    /// memory.
-    pub fn put_sample(&mut self, packets: &Packets, origin: O)
-        requires some { 0 < length packets.now }
-        requires room { self.old.used + blocks_for (length (unnumbered packets.now))
-            ≤ self.old.blocks }
-        requires place { length self.old.waits < self.old.most }
-        ensures { self.new ≡ record self.old {
-          waits = self.old.waits ++ record {
-            origin = origin;
-            packets = packets.now;
-            blocks = blocks_for (length (unnumbered packets.now));
-          } ∷ [];
-          used = self.old.used + blocks_for (length (unnumbered packets.now));
-        } }
-    {
-        let (bytes, len) = framed(packets);
-        self.put(&bytes, len, packets.len(), origin);
-    }
 }
 
 /// Writes the frame of a packet from `at` on, with a CTR of 0, and answers where it ends.
@@ -78,23 +55,4 @@ pub(crate) fn place_frame(room: &mut [u8], at: usize, packet: &[u8]) -> usize
     let header = [packet.len() as u8, 0, 0, 0];
     let body = place(room, at, &header[..]);
     place(room, body, packet)
-}
-
-/// The frames of packets, each with a CTR of 0, and how many bytes they have.
-fn framed(packets: &Packets) -> ([u8; MAX_SAMPLE_BYTES], usize)
-    ensures len { result.1 ≡ length (unnumbered packets.now) }
-    ensures bytes { take result.1 result.0 ≡ unnumbered packets.now }
-    ensures short { result.1 ≤ MAX_SAMPLE_BYTES }
-    ensures room { length result.0 ≡ MAX_SAMPLE_BYTES }
-    ensures each { ArePackets packets.now }
-    ensures count { length packets.now ≤ MAX_ODTS }
-{
-    let mut bytes = [0; MAX_SAMPLE_BYTES];
-    let mut end = 0;
-    // for the proof: so many packets, each of 1 to MAX_DTO bytes, find room
-    let _ = packets.len();
-    for packet in packets.iter() {
-        end = place_frame(&mut bytes, end, packet);
-    }
-    (bytes, end)
 }

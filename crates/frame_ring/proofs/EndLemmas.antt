@@ -6,7 +6,7 @@ use mathlib.Core.List.{IsPrefix}
 use Rattle.rtrb.specs.declared.consumer.Consumer.{Consumer}
 use Rattle.rtrb.specs.Ends.{SameRing}
 use Rattle.rtrb.specs.Fifo.{Allowed}
-use Rattle.rtrb.specs.Ring.{ConsumerLooked, known_items, received}
+use Rattle.rtrb.specs.Ring.{ConsumerLooked, SameConsumer, known_items, received}
 use Rattle.channel_ring.specs.Names.{name_of}
 use Rattle.channel_ring.specs.Room.{units, units-append}
 use Rattle.xcp_base.specs.declared.item.Item.{Item}
@@ -26,17 +26,30 @@ use Rattle.frame_ring.proofs.TakeLemmas.{all_allowed, first_known, is_taken, ite
 pub prefix_then : {X : Type 0} (a b c : List X) → IsPrefix a b → IsPrefix b c → IsPrefix a c
 prefix_then a b c p q = (p.0 ++ q.0, sym (append_assoc a p.0 q.0) ∙ ap (λ l. l ++ q.0) p.1 ∙ q.1)
 
+-- where an item is known, more of them leave the first block
+front_stays : (xs ys : List (List ℕ)) → IsPrefix xs ys → 0 < length (items_in xs) → front_block ys ≡ front_block xs
+front_stays [] ys p some = absurd (omega (arith, some, ap length nothing_read))
+front_stays (b ∷ bs) ys p some = ap front_block (sym p.1)
+
 module _ {A P : Type 0} where
   -- a take end over a consumer
   abbrev pub taking : Consumer (List ℕ) A P → TakeState
   taking c = record { received = items_in (received c); known = items_in (known_items c); front = front_block (known_items c); ring = name_of c.end }
 
   pub looks : (c d : Consumer (List ℕ) A P) → ConsumerLooked c d → LooksForItems (taking c) (taking d)
-  looks c d h = record { received = ap items_in h.1; grows = items_grow (known_items c) (known_items d) h.2; ring = same_name c.end d.end h.0.0 }
+  looks c d h = record {
+    received = ap items_in h.1;
+    grows = items_grow (known_items c) (known_items d) h.2;
+    front = front_stays (known_items c) (known_items d) h.2;
+    ring = same_name c.end d.end h.0.0;
+  }
+
+  pub same_then : (c d e : Consumer (List ℕ) A P) → SameConsumer c d → SameConsumer d e → SameConsumer c e
+  same_then c d e h k = ((k.0.0 ∙ h.0.0, k.0.1 ∙ h.0.1, k.0.2 ∙ h.0.2, k.0.3 ∙ h.0.3), k.1 ∙ h.1)
 
   pub looks_twice : (c d e : Consumer (List ℕ) A P) → ConsumerLooked c d → ConsumerLooked d e → ConsumerLooked c e
   looks_twice c d e h k =
-      (((k.0.0.0 ∙ h.0.0.0, k.0.0.1 ∙ h.0.0.1, k.0.0.2 ∙ h.0.0.2, k.0.0.3 ∙ h.0.0.3), k.0.1 ∙ h.0.1), k.1 ∙ h.1, prefix_then (known_items c) (known_items d) (known_items e) h.2 k.2)
+      (same_then c d e h.0 k.0, k.1 ∙ h.1, prefix_then (known_items c) (known_items d) (known_items e) h.2 k.2)
 
 pub none_there : (bs : List (List ℕ)) → length bs ≡ 0 → items_in bs ≡ []
 none_there [] h = nothing_read

@@ -5,5 +5,6 @@ pub mod RecordLemmas
 pub mod LayLemmas
 pub mod HeldLemmas
 pub mod TakeLemmas
+pub mod PopLemmas
 pub mod EndLemmas
 pub mod NumberLemmas

@@ -1,5 +1,5 @@
 -- What contracts see of the two ends of a ring of frames.
-use Rattle.std.specs.Prelude.{◌≡◌, ℕ, ◌+◌, ◌<◌, ◌≤◌, List, [], ◌∷◌, ◌++◌}
+use Rattle.std.specs.Prelude.{◌≡◌, ℕ, ◌+◌, ◌<◌, ◌≤◌, List, [], ◌∷◌, ◌++◌, length}
 use mathlib.Core.List.{IsPrefix}
 use Rattle.xcp_base.specs.declared.item.Item.{Item}
 use Rattle.channel_ring.specs.Ends.{RingName}
@@ -54,10 +54,11 @@ pub record SendsNothing (a b : SendState) (item : Item) : Type 0 where
   pub grows : a.free ≤ b.free
   pub short : b.free < cost item
 
--- a look at a take end's other end: more items may be known
+-- a look at a take end's other end: more items may be known, and the first stays the first
 pub record LooksForItems (a b : TakeState) : Type 0 where
   pub received : b.received ≡ a.received
   pub grows : IsPrefix a.known b.known
+  pub front : 0 < length a.known → b.front ≡ a.front
   pub ring : b.ring ≡ a.ring
 
 -- a head is what the first block of a ring tells, and so is that of the first item known

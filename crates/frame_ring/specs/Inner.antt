@@ -1,10 +1,14 @@
 -- Inner: what the ends of a ring of frames keep to.
 use Rattle.std.specs.Prelude.{◌≡◌, ℕ, ◌+◌, ◌-◌, ◌*◌, ◌%◌, ◌^◌, ◌≤◌, List, [], ◌∷◌, ◌++◌, length}
+use Rattle.std.specs.Prelude.{drop, take}
 use Rattle.std.specs.Simd.{first_chunks}
+use Rattle.rtrb.specs.Fifo.{Allowed}
+use Rattle.rtrb.specs.Ring.{SameConsumer, known_items, received}
+use Rattle.rtrb.specs.declared.consumer.Consumer.{Consumer}
 use Rattle.xcp_base.specs.declared.limits.TheConstants.{MAX_ODTS_IN_ALL, MAX_PACKET}
 use Rattle.channel_ring.specs.Making.{SampleLimit}
 use Rattle.channel_ring.specs.Room.{units}
-use Rattle.frame_ring.specs.Fronts.{AreRecords}
+use Rattle.frame_ring.specs.Fronts.{AreRecords, BeginRecords}
 use Rattle.frame_ring.specs.Reading.{items_in}
 use Rattle.frame_ring.specs.Records.{cost}
 use Rattle.frame_ring.specs.declared.limits.TheConstants.{MIN_ROOM}
@@ -39,3 +43,12 @@ limit_of room = record {
   packet = MAX_PACKET;
   frames = 8 * (room - 2);
 }
+
+-- the first n blocks that are known were popped, and read by nobody
+pub record PopsFront {A P : Type 0} (n : ℕ) (a b : Consumer (List ℕ) A P) : Type 0 where
+  pub ring : SameConsumer a b
+  pub popped : received b ≡ received a ++ take n (known_items a)
+  pub known : known_items b ≡ drop n (known_items a)
+  pub allowed :
+      Allowed (λ past block. BeginRecords (past ++ block ∷ [])) (received a)
+      (take n (known_items a))

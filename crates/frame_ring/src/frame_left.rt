@@ -17,6 +17,8 @@ pub struct FrameLeft {
     pub(crate) finished: Finished<Block, Global, WholeRecords>,
     // The items sent, modulo 2^64.
     pub(crate) count: u64,
+    // The room in which the records were made: a thread that finishes a send end frees nothing.
+    pub(crate) buffer: Vec<u8>,
     ghost whole: { AreRecords (all_sent finished) } by { Prim.hlevel item_props },
     ghost counted: { counts count (all_sent finished) },
 }

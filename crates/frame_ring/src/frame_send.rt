@@ -267,13 +267,17 @@ impl SendEnd for FrameSend {
         end.push_held();
         let FrameSend {
             producer,
-            buffer: _,
+            buffer,
             held: _,
             room: _,
             count,
         } = end;
         let finished = producer.finish()?;
-        Some(FrameLeft { finished, count })
+        Some(FrameLeft {
+            finished,
+            count,
+            buffer,
+        })
     }
 
     ghost enough = { λ s. Prim.omega (arith, s.kept.costs, s.kept.there, s.producer.counts) };

@@ -8,7 +8,7 @@ ghost use Rattle.channel_ring.specs.Names.{name_of};
 ghost use Rattle.frame_ring.specs.Ends.{IsFirstHead, LooksForItems, TakesFirst};
 ghost use Rattle.frame_ring.specs.Fronts.{AreRecords, BeginRecords};
 ghost use Rattle.frame_ring.specs.Heads.{head_blocks, head_of};
-ghost use Rattle.frame_ring.specs.Inner.{counts};
+ghost use Rattle.frame_ring.specs.Inner.{PopsFront, counts};
 ghost use Rattle.frame_ring.specs.Reading.{items_in};
 ghost use Rattle.frame_ring.specs.Records.{item_props};
 
@@ -31,7 +31,7 @@ pub struct FrameTake {
 }
 
 impl FrameTake {
-    ghost use Rattle.std.specs.Prelude.{◌≡◌, ◌<◌, [], ◌++◌, IfSome, IsNone, length};
+    ghost use Rattle.std.specs.Prelude.{◌≡◌, ℕ, ◌<◌, List, [], ◌++◌, IfSome, IsNone, length};
     ghost use Rattle.frame_ring.specs.States.{take_state};
 
     /// The take end over a consumer that popped nothing.
@@ -69,6 +69,18 @@ impl FrameTake {
         ensures { TakesFirst (take_state self.old) (take_state self.new) blocks.new }
     {
         pop_blocks(&mut self.consumer, blocks);
+        self.count = self.count.wrapping_add(1);
+    }
+
+    /// Lets the first item go, of which nobody reads more: its record is popped, which has so many
+    /// blocks. It takes no memory.
+    pub fn pass(&mut self, blocks: usize)
+        requires some { 0 < length (take_state self.old).known }
+        requires size { blocks ≡ head_blocks (head_of (take_state self.old).front) }
+        ensures { (popped : List (List ℕ))
+            × TakesFirst (take_state self.old) (take_state self.new) popped }
+    {
+        drop_blocks(&mut self.consumer, blocks);
         self.count = self.count.wrapping_add(1);
     }
 }
@@ -109,6 +121,16 @@ fn is_there(consumer: &mut Consumer<Block, Global, WholeRecords>, blocks: usize)
         return true;
     }
     blocks <= consumer.slots()
+}
+
+/// Pops so many blocks, which are there.
+fn drop_blocks(consumer: &mut Consumer<Block, Global, WholeRecords>, count: usize)
+    requires there { count ≤ length (known_items consumer.old) }
+    ensures { PopsFront count consumer.old consumer.new }
+{
+    for _ in 0..count {
+        consumer.pop_known();
+    }
 }
 
 /// Pops as many blocks, which are there.

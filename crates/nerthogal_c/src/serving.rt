@@ -10,13 +10,10 @@ ghost use Rattle.c_slave.specs.Openings.{OpensSlave};
 ghost use Rattle.c_slave.specs.States.{TellsState};
 ghost use Rattle.c_slave.specs.Tasks.{GivesTask};
 
-use byte_ring::ByteRing;
-use c_engine::HeldRing;
 use c_slave::{
     EventIn, Handle, MeasurementsOut, ProfileIn, SegmentIn, StateOut, close_slave_by, datagram_by,
     give_task, hang_up_by, open_slave, peek_by, receive_by, sent_by, state_by,
 };
-use channel_ring::SampleRing;
 use daq_engine::ListReport;
 use std::alloc::Global;
 
@@ -35,8 +32,8 @@ pub extern "C" fn ng_slave_open(
     slave: &mut Handle,
 ) -> u32
     ensures { (status : StatusOf) × (result ≡ number_of status)
-        × OpensSlave ⟦<SampleRing as HeldRing>⟧.rings ⟦<ByteRing as HeldRing>⟧.rings
-        slave.old.held slave.new.held profile.now segments.now events.now a2l.now status }
+        × OpensSlave slave.old.held slave.new.held
+        profile.now segments.now events.now a2l.now status }
 {
     open_slave(alloc, profile, segments, events, a2l, slave).number()
 }
@@ -74,8 +71,7 @@ pub extern "C" fn ng_slave_receive(
     taken: &mut usize,
 ) -> u32
     ensures { (status : StatusOf) × (result ≡ number_of status)
-        × Receives ⟦<SampleRing as HeldRing>⟧.rings ⟦<ByteRing as HeldRing>⟧.rings
-        slave.old.held slave.new.held bytes.now (given_by clock memory.now)
+        × Receives slave.old.held slave.new.held bytes.now (given_by clock memory.now)
         taken.old taken.new status }
 {
     receive_by(alloc, slave, bytes, clock, memory, taken).number()
@@ -95,8 +91,7 @@ pub extern "C" fn ng_slave_datagram(
     taken: &mut usize,
 ) -> u32
     ensures { (status : StatusOf) × (result ≡ number_of status)
-        × HearsDatagrams ⟦<SampleRing as HeldRing>⟧.rings ⟦<ByteRing as HeldRing>⟧.rings
-        slave.old.held slave.new.held bytes.now (given_by clock memory.now)
+        × HearsDatagrams slave.old.held slave.new.held bytes.now (given_by clock memory.now)
         taken.old taken.new status }
 {
     datagram_by(alloc, slave, bytes, clock, memory, taken).number()
@@ -108,8 +103,7 @@ pub extern "C" fn ng_slave_datagram(
 #[unsafe(no_mangle)]
 pub extern "C" fn ng_slave_hang_up(alloc: Global, slave: &mut Handle) -> u32
     ensures { (status : StatusOf) × (result ≡ number_of status)
-        × HangsUpSlave ⟦<SampleRing as HeldRing>⟧.rings ⟦<ByteRing as HeldRing>⟧.rings
-        slave.old.held slave.new.held status }
+        × HangsUpSlave slave.old.held slave.new.held status }
 {
     hang_up_by(alloc, slave).number()
 }
@@ -126,8 +120,7 @@ pub extern "C" fn ng_slave_peek(
     len: &mut usize,
 ) -> u32
     ensures { (status : StatusOf) × (result ≡ number_of status)
-        × PeeksSlave ⟦<SampleRing as HeldRing>⟧.rings ⟦<ByteRing as HeldRing>⟧.rings
-        slave.old.held slave.new.held
+        × PeeksSlave slave.old.held slave.new.held
         (record { buffer = buffer.old; len = len.old })
         (record { buffer = buffer.new; len = len.new }) status }
 {
@@ -140,8 +133,7 @@ pub extern "C" fn ng_slave_peek(
 #[unsafe(no_mangle)]
 pub extern "C" fn ng_slave_sent(alloc: Global, slave: &mut Handle) -> u32
     ensures { (status : StatusOf) × (result ≡ number_of status)
-        × SendsSlave ⟦<SampleRing as HeldRing>⟧.rings ⟦<ByteRing as HeldRing>⟧.rings
-        slave.old.held slave.new.held status }
+        × SendsSlave slave.old.held slave.new.held status }
 {
     sent_by(alloc, slave).number()
 }
@@ -172,8 +164,7 @@ pub extern "C" fn ng_slave_close(
     each: &mut MeasurementsOut,
 ) -> u32
     ensures { (status : StatusOf) × (result ≡ number_of status)
-        × ClosesSlaveOf ⟦<SampleRing as HeldRing>⟧.rings ⟦<ByteRing as HeldRing>⟧.rings
-        slave.old.held slave.new.held
+        × ClosesSlaveOf slave.old.held slave.new.held
         (record { lines = lines.old; whole = whole.old; each = each.old })
         (record { lines = lines.new; whole = whole.new; each = each.new }) status }
 {

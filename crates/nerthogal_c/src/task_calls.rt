@@ -5,10 +5,8 @@ ghost use Rattle.c_engine.specs.Statuses.{number_of};
 ghost use Rattle.c_engine.specs.declared.status.Status.{Status as StatusOf};
 ghost use Rattle.c_slave.specs.Tasks.{FinishesHeld, TriggersHeldTask, parts};
 
-use byte_ring::ByteRing;
-use c_engine::{HeldRing, TakenOut};
+use c_engine::TakenOut;
 use c_slave::{Handle, finish_task_by, status_of_finish, trigger_task_by};
-use channel_ring::SampleRing;
 use std::alloc::Global;
 
 /// Does all that the slave ordered, and then takes a trigger of the task's event channel, with a
@@ -27,8 +25,8 @@ pub extern "C" fn ng_task_trigger(
     taken: &mut TakenOut,
 ) -> u32
     ensures { (status : StatusOf) × (result ≡ number_of status)
-        × TriggersHeldTask ⟦<SampleRing as HeldRing>⟧.rings ⟦<ByteRing as HeldRing>⟧.rings
-        task.old.held task.new.held (parts memory.now) stamp taken.old taken.new status }
+        × TriggersHeldTask task.old.held task.new.held (parts memory.now) stamp
+        taken.old taken.new status }
 {
     trigger_task_by(alloc, task, memory, stamp, taken).number()
 }
@@ -39,8 +37,7 @@ pub extern "C" fn ng_task_trigger(
 #[unsafe(no_mangle)]
 pub extern "C" fn ng_task_finish(alloc: Global, task: &mut Handle) -> u32
     ensures { (status : StatusOf) × (result ≡ number_of status)
-        × FinishesHeld ⟦<SampleRing as HeldRing>⟧.rings ⟦<ByteRing as HeldRing>⟧.rings
-        task.old.held task.new.held status }
+        × FinishesHeld task.old.held task.new.held status }
 {
     status_of_finish(finish_task_by(alloc, task)).number()
 }

@@ -1,6 +1,5 @@
 -- Worked exchanges of slaves by their MAX_CTO.
-use Rattle.std.proofs.Common.{◌≡◌, ℕ, Bool, true, false, List, [], ◌∷◌, map, Some, None, Ok, Err, lit<, refl}
-use Rattle.xcp_base.specs.declared.err_code.ErrCode.TheVariants.{OutOfRange}
+use Rattle.std.proofs.Common.{◌≡◌, ℕ, true, false, [], ◌∷◌, map, Some, None, lit<, refl}
 use Rattle.segments.specs.declared.fault.SegmentFault.TheVariants.{Number}
 use Rattle.session.specs.declared.profile.Profile.{Profile}
 use Rattle.session.specs.declared.profile.ProfileFault.TheVariants.{MaxCto, Name, Segments}

@@ -19,7 +19,7 @@ use Rattle.session.specs.Exchanges.{Exchange, greeting_reply, is_greeting, maste
 use Rattle.session.specs.Fields.{IsReplyPacket, begins_reply, packet_of}
 use Rattle.session.specs.Laws.{RepliesFit}
 use Rattle.session.specs.Past.{Past}
-use Rattle.session.specs.Profiles.{IsProfile, lists_of, profile_fault}
+use Rattle.session.specs.Profiles.{IsProfile, lists_of}
 use Rattle.session.proofs.ProfileLemmas.{profile_within}
 use Rattle.session.specs.Replies.{clock_fields, comm_mode_fields, connect_fields, connect_reply, event_reply, id_fields, id_reply, list_info_reply, list_mode_reply, processor_fields, resolution_fields, status_fields}
 use Rattle.session.specs.Sources.{is_bad_count, is_bad_number, memory_reply, mta_reply, read_result, text_reply, upload_reply}

@@ -1,19 +1,18 @@
 -- Worked exchanges of slaves whose memory has several segments. Each has one event channel, an absolute ODT number and timestamps
 -- of 4 bytes.
-use Rattle.std.proofs.Common.{◌≡◌, ◌<◌, ℕ, List, [], ◌∷◌, length, map, replicate, Option, Some, None, true, lit<, refl}
+use Rattle.std.proofs.Common.{◌≡◌, ◌<◌, ℕ, List, [], ◌∷◌, length, map, replicate, Option, Some, None, true, false, lit<, refl}
 use Rattle.std.specs.declared.alloc.Global.{Global}
 use Rattle.std.specs.declared.vec.Vec.{Vec}
 use Rattle.std.proofs.Math.Nat.{le_refl}
 use Rattle.xcp_base.specs.declared.id_kind.IdKind.TheVariants.{Absolute}
-use Rattle.xcp_base.specs.declared.ring_kind.RingKind.TheVariants.{Bytes}
 use Rattle.segments.specs.declared.segment.Segment.{Segment}
 use Rattle.session.specs.declared.event_channel.EventChannel.{EventChannel}
 use Rattle.session.specs.declared.profile.Profile.{Profile}
-use Rattle.session.specs.declared.profile.ProfileFault.TheVariants.{Channels, Name, Segments}
+use Rattle.session.specs.declared.profile.ProfileFault.TheVariants.{Capacity, Channels, Name, Segments}
 use Rattle.segments.specs.declared.fault.SegmentFault.TheVariants.{Events, Number}
 use Rattle.session.specs.Exchanges.{master_reply, past_after_packet}
 use Rattle.session.specs.Past.{Past, new_past}
-use Rattle.session.specs.Profiles.{profile_fault}
+use Rattle.session.specs.Profiles.{is_bad_capacity, profile_fault}
 
 -- the replies to packets, with this memory at each of them
 abbrev pub replies : Profile → List (List ℕ) → Past → List (List ℕ) → List (Option (List ℕ))
@@ -38,7 +37,6 @@ over d xs small =
       stamp_size = 4;
       unit = 3;
       ticks = 1;
-      ring = Bytes;
       max_cto = 64;
       name = with d.name [] (lit< tt);
       events = with d.events (record { capacity = 4096; name = with d.name (0x65 ∷ 0x30 ∷ []) (lit< tt); cycle = 0; cycle_unit = 0; priority = 0 } ∷ []) (lit< tt);
@@ -324,3 +322,13 @@ sixteen_channels d = refl
 
 seventeen_channels : (d : Profile) → profile_fault (record (over_three d) { events = with d.events (replicate 17 (event_of d)) (lit< tt) }) ≡ Some Channels
 seventeen_channels d = refl
+
+-- a ring has 64 to 16,777,216 bytes, a multiple of 8
+good_capacities : map is_bad_capacity (64 ∷ 72 ∷ 32256 ∷ 16777216 ∷ []) ≡ replicate 4 false
+good_capacities = refl
+
+bad_capacities : map is_bad_capacity (0 ∷ 4 ∷ 56 ∷ 65 ∷ 68 ∷ 532 ∷ 16777217 ∷ 16777224 ∷ []) ≡ replicate 8 true
+bad_capacities = refl
+
+bad_ring : (d : Profile) → profile_fault (record (over_three d) { events = with d.events (event_of d ∷ record (event_of d) { capacity = 4 } ∷ []) (lit< tt) }) ≡ Some Capacity
+bad_ring d = refl

@@ -1,11 +1,12 @@
 -- What a slave is opened with, and its limits.
-use Rattle.std.specs.Prelude.{◌≡◌, ℕ, ◌+◌, ◌≤◌, ◌==◌, ◌||◌, nat_lt, Bool, if◌then◌else◌, All}
+use Rattle.std.specs.Prelude.{◌≡◌, ℕ, ◌+◌, ◌≤◌, ◌==◌, ◌||◌, ◌%◌, nat_lt, not, Bool}
+use Rattle.std.specs.Prelude.{if◌then◌else◌, All}
 use Rattle.std.specs.Prelude.{List, [], ◌∷◌, length, Option, Some, None, is_none}
 use Rattle.std.specs.Prelude.{option_map, unwrap_or}
 use Rattle.std.specs.List.{list_any}
-use Rattle.xcp_base.specs.declared.limits.TheConstants.{MAX_BYTE_RING, MAX_CHANNELS, MAX_CTO}
-use Rattle.xcp_base.specs.declared.limits.TheConstants.{MAX_ENTRIES, MAX_NAME, MAX_SAMPLE_RING}
-use Rattle.xcp_base.specs.declared.limits.TheConstants.{MAX_UNIT, MIN_BYTE_RING, MIN_CTO}
+use Rattle.xcp_base.specs.declared.limits.TheConstants.{MAX_CHANNELS, MAX_CTO, MAX_ENTRIES}
+use Rattle.xcp_base.specs.declared.limits.TheConstants.{MAX_NAME, MAX_UNIT, MIN_CTO}
+use Rattle.frame_ring.specs.declared.limits.TheConstants.{MAX_FRAME_RING, MIN_FRAME_RING}
 use Rattle.xcp_base.specs.Forms.{form_of, size_of, usual_form}
 use Rattle.daq_store.specs.Calls.{Profile as ListsProfile}
 use Rattle.session.specs.declared.profile.Profile.{Profile}
@@ -13,8 +14,6 @@ use Rattle.segments.specs.declared.segment.Segment.{Segment}
 use Rattle.segments.specs.Faults.{segments_fault}
 use Rattle.session.specs.declared.profile.TheConstants.{MAX_TEXT}
 use Rattle.session.specs.declared.event_channel.EventChannel.{EventChannel}
-use Rattle.xcp_base.specs.declared.ring_kind.RingKind.{RingKind}
-use Rattle.xcp_base.specs.declared.ring_kind.RingKind.TheVariants as ring
 use Rattle.session.specs.declared.profile.ProfileFault.{ProfileFault}
 use Rattle.session.specs.declared.profile.ProfileFault.TheVariants as fault
 
@@ -27,10 +26,9 @@ abbrev pub is_bad_name : List ℕ → Bool
 is_bad_name name =
     nat_lt MAX_NAME (length name) || list_any is_unprintable name
 
--- a capacity that a ring of this kind may not have
-abbrev pub is_bad_capacity : RingKind → ℕ → Bool
-is_bad_capacity ring.Samples n = n == 0 || nat_lt MAX_SAMPLE_RING n
-is_bad_capacity ring.Bytes n = nat_lt n MIN_BYTE_RING || nat_lt MAX_BYTE_RING n
+-- a capacity in bytes that a ring may not have: its unit is a block of eight bytes
+abbrev pub is_bad_capacity : ℕ → Bool
+is_bad_capacity n = nat_lt n MIN_FRAME_RING || nat_lt MAX_FRAME_RING n || not (n % 8 == 0)
 
 -- the first limit that an event channel is out of, and that event channels are
 abbrev pub event_fault : EventChannel → Option ProfileFault
@@ -58,7 +56,7 @@ numbers_fault d =
     else if is_none (size_of d.stamp_size) then Some fault.StampSize
     else if nat_lt MAX_UNIT d.unit then Some fault.Unit
     else if d.ticks == 0 then Some fault.Ticks
-    else if list_any (λ e. is_bad_capacity d.ring e.capacity) d.events.items
+    else if list_any (λ e. is_bad_capacity e.capacity) d.events.items
     then Some fault.Capacity else None
 
 abbrev pub names_fault : Profile → Option ProfileFault

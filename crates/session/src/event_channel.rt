@@ -9,7 +9,7 @@ use xcp_base::limits::{MAX_NAME, MAX_UNIT};
 /// What a slave tells of an event channel.
 #[derive(Debug, Drop)]
 pub struct EventChannel {
-    /// The capacity of its ring, in the units of the ring's kind.
+    /// The capacity of its ring in bytes: 64 to 16,777,216, a multiple of 8.
     pub capacity: usize,
     /// 0 to 56 bytes of ASCII, 0x20 to 0x7E.
     pub name: Vec<u8>,

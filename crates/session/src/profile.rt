@@ -8,13 +8,13 @@ ghost use Rattle.session.specs.Profiles.{is_bad_capacity};
 
 use crate::event_channel::{EventChannel, events_fault, is_bad_name};
 use crate::source::TextOf;
+use frame_ring::BLOCK;
+use frame_ring::limits::{MAX_FRAME_RING, MIN_FRAME_RING};
 use segments::limits::MAX_READERS;
 use segments::{Segment, SegmentFault, Segments};
 use thiserror::Error;
-use xcp_base::limits::{
-    MAX_BYTE_RING, MAX_CHANNELS, MAX_CTO, MAX_SAMPLE_RING, MAX_UNIT, MIN_BYTE_RING, MIN_CTO,
-};
-use xcp_base::{IdKind, RingKind, StampSize};
+use xcp_base::limits::{MAX_CHANNELS, MAX_CTO, MAX_UNIT, MIN_CTO};
+use xcp_base::{IdKind, StampSize};
 
 /// What a slave is opened with.
 #[derive(Debug, Drop)]
@@ -29,8 +29,6 @@ pub struct Profile {
     pub unit: u8,
     /// So many units are one tick of a timestamp.
     pub ticks: u16,
-    /// The kind of the rings between the tasks and the transmitter.
-    pub ring: RingKind,
     /// MAX_CTO: the most bytes of a command packet and of a reply, 8 to 255.
     pub max_cto: u8,
     /// 0 to 56 bytes of ASCII, 0x20 to 0x7E, and at most `max_cto - 8`.
@@ -114,7 +112,7 @@ impl Profile {
         if self.ticks == 0 {
             return Some(ProfileFault::Ticks);
         }
-        if has_bad_capacity(self.ring, &self.events) {
+        if has_bad_capacity(&self.events) {
             return Some(ProfileFault::Capacity);
         }
         None
@@ -190,21 +188,16 @@ impl Profile {
 /// The most bytes of a text that UPLOAD reads: its length has four bytes.
 const MAX_TEXT: usize = 0xFFFF_FFFF;
 
-/// Whether some event channel has a capacity that rings of this kind may not have.
-fn has_bad_capacity(ring: RingKind, events: &[EventChannel]) -> bool
-    ensures { result ≡ list_any (λ e. is_bad_capacity ring e.capacity) events.now }
+/// Whether some event channel has a capacity that a ring may not have.
+fn has_bad_capacity(events: &[EventChannel]) -> bool
+    ensures { result ≡ list_any (λ e. is_bad_capacity e.capacity) events.now }
 {
-    events
-        .iter()
-        .any(|event| is_bad_capacity(ring, event.capacity))
+    events.iter().any(|event| is_bad_capacity(event.capacity))
 }
 
-/// Whether a ring of this kind may not have this capacity.
-fn is_bad_capacity(ring: RingKind, capacity: usize) -> bool
-    ensures { result ≡ is_bad_capacity ring capacity }
+/// Whether a ring may not have this capacity.
+fn is_bad_capacity(capacity: usize) -> bool
+    ensures { result ≡ is_bad_capacity capacity }
 {
-    match ring {
-        RingKind::Samples => capacity == 0 || capacity > MAX_SAMPLE_RING,
-        RingKind::Bytes => capacity < MIN_BYTE_RING || capacity > MAX_BYTE_RING,
-    }
+    capacity < MIN_FRAME_RING || capacity > MAX_FRAME_RING || capacity % BLOCK != 0
 }

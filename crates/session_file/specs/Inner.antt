@@ -32,7 +32,6 @@ values_data v = record {
   memory = memory_data v.memory;
   id = v.id;
   stamp = v.stamp;
-  ring = v.ring;
   unit = v.unit;
   ticks = v.ticks;
   max_cto = v.max_cto;

@@ -6,18 +6,16 @@ use Rattle.toml.specs.Data.{as_array, as_str}
 use Rattle.xcp_base.specs.declared.id_kind.IdKind.{IdKind}
 use Rattle.xcp_base.specs.declared.stamp_size.StampSize.{StampSize}
 use Rattle.xcp_base.specs.declared.limits.TheConstants.{MAX_CTO, MAX_UNIT, MIN_CTO}
-use Rattle.run_file.specs.Keys.{at_key, id_of, image_len_of, is_among, number_in, ring_of, stamp_of}
+use Rattle.run_file.specs.Keys.{at_key, id_of, image_len_of, is_among, number_in, stamp_of}
 use Rattle.run_file.specs.Keys.{texts_at}
-use Rattle.xcp_base.specs.declared.ring_kind.RingKind.{RingKind}
 use Rattle.session_file.specs.declared.limits.TheConstants.{MAX_LINES, USUAL_CTO}
 
 -- the keys of a session file, and of an event channel
 abbrev pub keys : List (List ℕ)
 keys =
-    codes "image_len" ∷ codes "id" ∷ codes "stamp_size" ∷ codes "ring" ∷ codes "unit"
-    ∷ codes "ticks" ∷ codes "max_cto" ∷ codes "base" ∷ codes "name" ∷ codes "a2l_name"
-    ∷ codes "epk" ∷ codes "a2l"
-    ∷ codes "segments" ∷ codes "events" ∷ codes "script" ∷ []
+    codes "image_len" ∷ codes "id" ∷ codes "stamp_size" ∷ codes "unit" ∷ codes "ticks"
+    ∷ codes "max_cto" ∷ codes "base" ∷ codes "name" ∷ codes "a2l_name" ∷ codes "epk"
+    ∷ codes "a2l" ∷ codes "segments" ∷ codes "events" ∷ codes "script" ∷ []
 
 abbrev pub event_keys : List (List ℕ)
 event_keys =
@@ -92,7 +90,6 @@ pub record KeyValues : Type 0 where
   pub memory : MemoryData
   pub id : IdKind
   pub stamp : StampSize
-  pub ring : RingKind
   pub unit : ℕ
   pub ticks : ℕ
   pub max_cto : ℕ
@@ -109,7 +106,6 @@ pub record AreKeyValues (ms : Members) (v : KeyValues) : Type 0 where
   pub memory_is : memory_of ms ≡ Some v.memory
   pub id_is : id_of ms ≡ Some v.id
   pub stamp_is : stamp_of ms ≡ Some v.stamp
-  pub ring_is : ring_of ms ≡ Some v.ring
   pub unit_is : at_key (number_in 0 MAX_UNIT) (codes "unit") ms ≡ Some v.unit
   pub ticks_are : at_key (number_in 1 65535) (codes "ticks") ms ≡ Some v.ticks
   pub max_cto_is : max_cto_of ms ≡ Some v.max_cto

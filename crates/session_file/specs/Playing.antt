@@ -1,7 +1,7 @@
 -- What a slave does when the lines of a script are played.
 use Rattle.std.specs.Prelude.{◌≡◌, ℕ, ◌+◌, ◌*◌, ◌≤◌, List, [], ◌∷◌, ◌++◌, length, map}
 use Rattle.channel_ring.specs.Ends.{RingName}
-use Rattle.channel_ring.specs.declared.ends.TakeEnd.{Ghosts as TakeGhosts}
+use Rattle.frame_ring.specs.declared.frame_send.FrameSend.{FrameSend}
 use Rattle.session.specs.declared.profile.Profile.{Profile}
 use Rattle.slave_channels.specs.Calls.{rings_of}
 use Rattle.slave.specs.Hearing.{KeepsLines}
@@ -43,46 +43,44 @@ abbrev pub most_a_line : ℕ
 most_a_line = most_taken + 64
 
 -- the names of the lines of tasks with their slave
-abbrev pub lines_of : {S : Type 0} → List (TaskState S) → List RingName
-lines_of tasks = map (λ (task : TaskState _). task.ring) tasks
+abbrev pub lines_of : List (TaskState FrameSend) → List RingName
+lines_of tasks = map (λ (task : TaskState FrameSend). task.ring) tasks
 
 -- the tasks are those of the slave, in the order of its event channels
-abbrev pub AreTasksOf : {S T : Type 0} → SlaveState S T → List (TaskState S) → Type 0
+abbrev pub AreTasksOf : SlaveState → List (TaskState FrameSend) → Type 0
 AreTasksOf slave tasks = lines_of tasks ≡ rings_of slave.channels
 
 -- a slave, and the bytes that it sent so far
-pub record Sending (S T : Type 0) : Type 0 where
-  pub slave : SlaveState S T
+pub record Sending : Type 0 where
+  pub slave : SlaveState
   pub sent : List ℕ
 
-module _ {S T : Type 0} where
-  abbrev pub sending : SlaveState S T → List ℕ → Sending S T
-  sending slave sent = record { slave = slave; sent = sent }
+abbrev pub sending : SlaveState → List ℕ → Sending
+sending slave sent = record { slave = slave; sent = sent }
 
-module _ {S T F : Type 0} (take : TakeGhosts T F) where
-  -- the slave stands after a log, and what was sent is the text of it
-  pub record StandsSo (d : Profile) (a : Sending S T) (log : List Act) : Type 0 where
-    pub stands : SlaveStandsAfter take d a.slave log
-    pub text_is : a.sent ≡ sent_text d log
+-- the slave stands after a log, and what was sent is the text of it
+pub record StandsSo (d : Profile) (a : Sending) (log : List Act) : Type 0 where
+  pub stands : SlaveStandsAfter d a.slave log
+  pub text_is : a.sent ≡ sent_text d log
 
-  -- these packets were heard, in order, and no others; and no more was done than so many acts. Each
-  -- event channel is on its line with its task still
-  pub record Advances (most : ℕ) (a b : Sending S T) (packets : List (List ℕ)) : Type 0 where
-    pub lines : KeepsLines a.slave b.slave
-    pub acts : List Act
-    pub few : length acts ≤ most
-    pub heard : heard_by acts ≡ packets
-    pub goes : (d : Profile) (log : List Act) → StandsSo d a log → StandsSo d b (acts ++ log)
+-- these packets were heard, in order, and no others; and no more was done than so many acts. Each
+-- event channel is on its line with its task still
+pub record Advances (most : ℕ) (a b : Sending) (packets : List (List ℕ)) : Type 0 where
+  pub lines : KeepsLines a.slave b.slave
+  pub acts : List Act
+  pub few : length acts ≤ most
+  pub heard : heard_by acts ≡ packets
+  pub goes : (d : Profile) (log : List Act) → StandsSo d a log → StandsSo d b (acts ++ log)
 
-  -- lines were played, if `before` lines had been refused and now `after` are: the packets
-  -- that were heard are those of the master without those that were refused
-  pub record Does (a b : Sending S T) (before after : ℕ) (lines : List LineData) : Type 0 where
-    pub unheard : ℕ
-    pub packets : List (List ℕ)
-    pub thinned : IsWithout unheard (masters lines) packets
-    pub counted : before + unheard ≤ after
-    pub most : after ≤ before + length lines
-    pub advances : Advances (most_a_line * length lines) a b packets
+-- lines were played, if `before` lines had been refused and now `after` are: the packets that were
+-- heard are those of the master without those that were refused
+pub record Does (a b : Sending) (before after : ℕ) (lines : List LineData) : Type 0 where
+  pub unheard : ℕ
+  pub packets : List (List ℕ)
+  pub thinned : IsWithout unheard (masters lines) packets
+  pub counted : before + unheard ≤ after
+  pub most : after ≤ before + length lines
+  pub advances : Advances (most_a_line * length lines) a b packets
 
 -- a log of a slave of this profile, of which the law of a session holds: it heard the master's
 -- packets of these lines, in order, but those that were refused; and the bytes are those of what it
@@ -98,11 +96,9 @@ pub record IsPlay (d : Profile) (lines : List LineData) (refused : ℕ) (bytes :
   pub law : SessionLaw d log
   pub bytes_are : bytes ≡ sent_text d log
 
-module _ {T F : Type 0} (take : TakeGhosts T F) where
-  -- such a log, after which the slave stands
-  pub record HasPlayed (S : Type 0) (d : Profile) (lines : List LineData) (refused : ℕ)
-      (bytes : List ℕ)
-      : Type 0 where
-    pub slave : SlaveState S T
-    pub play : IsPlay d lines refused bytes
-    pub stands : SlaveStandsAfter take d slave play.log
+-- such a log, after which the slave stands
+pub record HasPlayed (d : Profile) (lines : List LineData) (refused : ℕ) (bytes : List ℕ)
+    : Type 0 where
+  pub slave : SlaveState
+  pub play : IsPlay d lines refused bytes
+  pub stands : SlaveStandsAfter d slave play.log

@@ -6,7 +6,7 @@ ghost use Rattle.session_file.specs.Keys.{HasBadKey};
 use crate::keys::{has_file_keys, has_key, max_cto_of, text_or_empty};
 use crate::limits::MAX_LINES;
 use crate::memory_keys::memory_of;
-use run_file::{array_at, id_of, number_at, ring_of, stamp_of, texts_at};
+use run_file::{array_at, id_of, number_at, stamp_of, texts_at};
 use toml::Table;
 use xcp_base::limits::{MAX_IMAGE_LEN, MAX_UNIT};
 
@@ -21,7 +21,6 @@ pub enum BadKey {
     Segments,
     Id,
     StampSize,
-    Ring,
     Unit,
     Ticks,
     MaxCto,
@@ -50,9 +49,6 @@ impl BadKey {
         };
         let Some(_) = stamp_of(table) else {
             return Some(BadKey::StampSize);
-        };
-        let Some(_) = ring_of(table) else {
-            return Some(BadKey::Ring);
         };
         let Some(_) = number_at(table, "unit", 0, MAX_UNIT as usize) else {
             return Some(BadKey::Unit);

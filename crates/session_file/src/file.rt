@@ -96,7 +96,6 @@ fn profile_of(
         unit: values.unit,
         ticks: values.ticks,
         max_cto: values.max_cto,
-        ring: values.ring,
         name: bytes_in(alloc, values.name)?,
         events,
         a2l_name: bytes_in(alloc, values.a2l_name)?,

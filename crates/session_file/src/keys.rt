@@ -26,7 +26,6 @@ pub fn is_file_key(word: &str) -> bool
     word == "image_len"
         || word == "id"
         || word == "stamp_size"
-        || word == "ring"
         || word == "unit"
         || word == "ticks"
         || word == "max_cto"

@@ -2,7 +2,7 @@
 ghost use Rattle.std.specs.Prelude.{OnOk};
 ghost use Rattle.slave_channels.specs.Channels.{IsFinished};
 
-use daq_engine::{ListReport, Ring};
+use daq_engine::ListReport;
 use slave_channels::Finished;
 use std::alloc::{AllocError, Global};
 use xcp_base::ListId;
@@ -31,9 +31,8 @@ impl Parts {
     }
 
     /// Notes the lines of a part that came back, and returns its measurement.
-    pub fn add<R: Ring>(&mut self, finished: &Finished<R>) -> Result<u64, AllocError>
-        ensures finished { OnOk result
-            (IsFinished R.Send.End.RingEnd R.Take.TakeEnd finished.now) }
+    pub fn add(&mut self, finished: &Finished) -> Result<u64, AllocError>
+        ensures finished { OnOk result (IsFinished finished.now) }
     {
         let measurement = finished.number();
         for l in 0..MAX_LISTS {

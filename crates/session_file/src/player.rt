@@ -15,8 +15,7 @@ use crate::parts::Parts;
 use crate::play_fault::PlayFault;
 use crate::played::Played;
 use crate::transport::{collect, lose, send};
-use channel_ring::SendEnd;
-use daq_engine::Ring;
+use frame_ring::FrameSend;
 use frame_writer::VecOut;
 use segments::limits::MAX_READERS;
 use segments::{Segment, fits};
@@ -26,9 +25,9 @@ use tasks::{Task, TaskEnd};
 
 /// A slave with its tasks, and what came of the lines so far.
 #[derive(Drop)]
-pub struct Player<R: Ring> {
-    pub(crate) slave: Slave<R>,
-    pub(crate) tasks: Vec<Task<R::Send>>,
+pub struct Player {
+    pub(crate) slave: Slave,
+    pub(crate) tasks: Vec<Task<FrameSend>>,
     pub(crate) segments: Vec<Segment>,
     pub(crate) clock: u32,
     pub(crate) memory: Vec<Vec<u8>>,
@@ -73,8 +72,8 @@ fn is_memory_of(segments: &[Segment], channel: u8, memory: &[&[u8]]) -> bool
 
 /// The task of an event channel takes a trigger, if there is one and the memory is one of it; and
 /// returns whether it did.
-fn is_taken<S: SendEnd>(
-    tasks: &mut [Task<S>],
+fn is_taken(
+    tasks: &mut [Task<FrameSend>],
     segments: &[Segment],
     channel: u8,
     memory: &[&[u8]],
@@ -94,9 +93,12 @@ fn is_taken<S: SendEnd>(
 }
 
 /// Finishes tasks, which give back what is left of what they hold: what is left of each.
-fn finish_all<S: SendEnd>(alloc: Global, tasks: Vec<Task<S>>) -> Result<Vec<TaskEnd<S>>, AllocError>
+fn finish_all(
+    alloc: Global,
+    tasks: Vec<Task<FrameSend>>,
+) -> Result<Vec<TaskEnd<FrameSend>>, AllocError>
     ensures lines { IfOk result (λ ends.
-        map (λ (end : TaskEndState S). end.ring) ends.items ≡ lines_of tasks.items) }
+        map (λ (end : TaskEndState FrameSend). end.ring) ends.items ≡ lines_of tasks.items) }
 {
     let mut ends = Vec::with_capacity(alloc, tasks.len())?;
     for task in tasks {
@@ -105,12 +107,11 @@ fn finish_all<S: SendEnd>(alloc: Global, tasks: Vec<Task<S>>) -> Result<Vec<Task
     Ok(ends)
 }
 
-impl<R: Ring> Player<R> {
+impl Player {
     /// Plays a line.
     pub(crate) fn line(&mut self, alloc: Global, line: &Line) -> Result<(), AllocError>
         requires few { self.old.refused < 0xFFFFFFFFFFFFFFFF }
-        ensures does { OnOk result (Does R.Take.TakeEnd
-            (sending self.old.slave self.old.out.contents)
+        ensures does { OnOk result (Does (sending self.old.slave self.old.out.contents)
             (sending self.new.slave self.new.out.contents)
             self.old.refused self.new.refused (line_data line.now ∷ [])) }
         ensures tasks { lines_of self.new.tasks.items ≡ lines_of self.old.tasks.items }
@@ -141,8 +142,7 @@ impl<R: Ring> Player<R> {
     /// before it, for the lines of each measurement.
     fn master(&mut self, alloc: Global, packet: &[u8]) -> Result<(), AllocError>
         requires few { self.old.refused < 0xFFFFFFFFFFFFFFFF }
-        ensures does { OnOk result (Does R.Take.TakeEnd
-            (sending self.old.slave self.old.out.contents)
+        ensures does { OnOk result (Does (sending self.old.slave self.old.out.contents)
             (sending self.new.slave self.new.out.contents)
             self.old.refused self.new.refused (master packet.now ∷ [])) }
         ensures tasks_stay { self.new.tasks ≡ self.old.tasks }
@@ -194,7 +194,7 @@ impl<R: Ring> Player<R> {
     /// Sends as many of the frames that wait as find room in so many bytes, as one datagram.
     fn send(&mut self, room: usize) -> Result<(), AllocError>
         requires few { room ≤ ROOM }
-        ensures sends { OnOk result (Advances R.Take.TakeEnd most_a_line
+        ensures sends { OnOk result (Advances most_a_line
             (sending self.old.slave self.old.out.contents)
             (sending self.new.slave self.new.out.contents) []) }
         ensures refused_stays { self.new.refused ≡ self.old.refused }
@@ -211,7 +211,7 @@ impl<R: Ring> Player<R> {
 
     /// A transport refuses what waits.
     fn lose(&mut self)
-        ensures loses { Advances R.Take.TakeEnd most_a_line
+        ensures loses { Advances most_a_line
             (sending self.old.slave self.old.out.contents)
             (sending self.new.slave self.new.out.contents) [] }
         ensures refused_stays { self.new.refused ≡ self.old.refused }
@@ -222,7 +222,7 @@ impl<R: Ring> Player<R> {
 
     /// The transport is lost, and what waits is thrown away.
     fn hang_up(&mut self)
-        ensures hangs_up { Advances R.Take.TakeEnd most_a_line
+        ensures hangs_up { Advances most_a_line
             (sending self.old.slave self.old.out.contents)
             (sending self.new.slave self.new.out.contents) [] }
         ensures refused_stays { self.new.refused ≡ self.old.refused }
@@ -239,8 +239,8 @@ impl<R: Ring> Player<R> {
         requires tasks { AreTasksOf self.slave self.tasks.items }
         ensures sent { IfOk result (λ played. played.sent ≡ self.out) }
         ensures refused { IfOk result (λ played. played.refused ≡ self.refused) }
-        ensures ends { IfOk result (λ played. (s : SlaveState R.Send R.Take)
-            × Advances R.Take.TakeEnd most_a_line (sending self.slave self.out.contents)
+        ensures ends { IfOk result (λ played. (s : SlaveState)
+            × Advances most_a_line (sending self.slave self.out.contents)
             (sending s played.sent.contents) []) }
     {
         self.slave.hang_up();

@@ -10,14 +10,10 @@ use crate::play_fault::PlayFault;
 use crate::played::Played;
 use crate::player::Player;
 use crate::{Line, SessionFile};
-use byte_ring::ByteRing;
-use channel_ring::SampleRing;
-use daq_engine::Ring;
 use frame_writer::VecOut;
-use session::{Profile, ProfileFault};
+use session::Profile;
 use slave::{OpenFault, Slave};
 use std::alloc::{AllocError, Global};
-use xcp_base::RingKind;
 
 /// Plays a session, line by line, and ends it: the slave hangs up, which throws away what waits,
 /// the tasks finish, and what came back is collected.
@@ -28,22 +24,15 @@ pub fn play(alloc: Global, file: SessionFile) -> Result<Played, PlayFault>
         (map line_data file.script.items) played.refused played.sent.contents) }
 {
     let SessionFile { profile, script } = file;
-    match profile.ring {
-        RingKind::Samples => play_over::<SampleRing>(alloc, profile, &script),
-        RingKind::Bytes => play_over::<ByteRing>(alloc, profile, &script),
-    }
+    play_over(alloc, profile, &script)
 }
 
-/// Plays a session over rings of this kind.
-pub fn play_over<R: Ring>(
-    alloc: Global,
-    profile: Profile,
-    script: &[Line],
-) -> Result<Played, PlayFault>
-    ensures played { IfOk result (λ played. HasPlayed R.Take.TakeEnd R.Send profile
-        (map line_data script.now) played.refused played.sent.contents) }
+/// Plays the lines of a script over a slave that is opened with this profile.
+pub fn play_over(alloc: Global, profile: Profile, script: &[Line]) -> Result<Played, PlayFault>
+    ensures played { IfOk result (λ played. HasPlayed profile (map line_data script.now)
+        played.refused played.sent.contents) }
 {
-    let mut player = open::<R>(alloc, profile)?;
+    let mut player = open(alloc, profile)?;
     let Ok(()) = play_all(&mut player, alloc, script) else {
         return Err(PlayFault::Memory);
     };
@@ -51,15 +40,14 @@ pub fn play_over<R: Ring>(
 }
 
 /// A slave that was just opened, its tasks, and nothing that came of a line.
-fn open<R: Ring>(alloc: Global, profile: Profile) -> Result<Player<R>, PlayFault>
-    ensures stands { IfOk result (λ player.
-        SlaveStandsAfter R.Take.TakeEnd profile player.slave []) }
+fn open(alloc: Global, profile: Profile) -> Result<Player, PlayFault>
+    ensures stands { IfOk result (λ player. SlaveStandsAfter profile player.slave []) }
     ensures none_sent { IfOk result (λ player. player.out.contents ≡ []) }
     ensures none_refused { IfOk result (λ player. player.refused ≡ 0) }
     ensures tasks { IfOk result (λ player. AreTasksOf player.slave player.tasks.items) }
 {
     let segments = profile.segments.clone()?;
-    match Slave::<R>::open(alloc, profile) {
+    match Slave::open(alloc, profile) {
         Ok((slave, tasks)) => Ok(Player {
             slave,
             tasks,
@@ -79,20 +67,14 @@ fn open<R: Ring>(alloc: Global, profile: Profile) -> Result<Player<R>, PlayFault
 fn fault_of(fault: OpenFault) -> PlayFault {
     match fault {
         OpenFault::Profile(fault) => PlayFault::Profile(fault),
-        OpenFault::Capacity => PlayFault::Profile(ProfileFault::Capacity),
         OpenFault::Memory => PlayFault::Memory,
     }
 }
 
 /// Plays lines, one after another.
-fn play_all<R: Ring>(
-    player: &mut Player<R>,
-    alloc: Global,
-    script: &[Line],
-) -> Result<(), AllocError>
+fn play_all(player: &mut Player, alloc: Global, script: &[Line]) -> Result<(), AllocError>
     requires none_refused { player.old.refused ≡ 0 }
-    ensures does { OnOk result (Does R.Take.TakeEnd
-        (sending player.old.slave player.old.out.contents)
+    ensures does { OnOk result (Does (sending player.old.slave player.old.out.contents)
         (sending player.new.slave player.new.out.contents)
         player.old.refused player.new.refused (map line_data script.now)) }
     ensures tasks { lines_of player.new.tasks.items ≡ lines_of player.old.tasks.items }

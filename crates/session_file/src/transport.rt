@@ -8,7 +8,6 @@ ghost use Rattle.session_file.specs.declared.limits.TheConstants.{ROOM};
 
 use crate::limits::ROOM;
 use crate::parts::Parts;
-use daq_engine::Ring;
 use frame_writer::{Out, VecOut};
 use slave::Slave;
 use std::alloc::AllocError;
@@ -20,9 +19,9 @@ const MOST_PARTS: usize = 4;
 
 /// Takes items off the rings, and sends as many of the frames that wait as find room in so many
 /// bytes.
-pub fn send<R: Ring>(slave: &mut Slave<R>, out: &mut VecOut, room: usize) -> Result<(), AllocError>
+pub fn send(slave: &mut Slave, out: &mut VecOut, room: usize) -> Result<(), AllocError>
     requires few { room ≤ ROOM }
-    ensures sends { OnOk result (Advances R.Take.TakeEnd (most_taken + 1)
+    ensures sends { OnOk result (Advances (most_taken + 1)
         (sending slave.old out.old.contents) (sending slave.new out.new.contents) []) }
 {
     slave.take();
@@ -37,8 +36,8 @@ pub fn send<R: Ring>(slave: &mut Slave<R>, out: &mut VecOut, room: usize) -> Res
 }
 
 /// Takes items off the rings, and shows all that waits to a transport that refuses it.
-pub fn lose<R: Ring>(slave: &mut Slave<R>)
-    ensures shows { (sent : List ℕ) → Advances R.Take.TakeEnd most_taken
+pub fn lose(slave: &mut Slave)
+    ensures shows { (sent : List ℕ) → Advances most_taken
         (sending slave.old sent) (sending slave.new sent) [] }
 {
     slave.take();
@@ -47,8 +46,8 @@ pub fn lose<R: Ring>(slave: &mut Slave<R>)
 }
 
 /// Collects what came back of measurements at all event channels.
-pub fn collect<R: Ring>(slave: &mut Slave<R>, parts: &mut Parts) -> Result<(), AllocError>
-    ensures collects { OnOk result ((sent : List ℕ) → Advances R.Take.TakeEnd (4 * MAX_CHANNELS)
+pub fn collect(slave: &mut Slave, parts: &mut Parts) -> Result<(), AllocError>
+    ensures collects { OnOk result ((sent : List ℕ) → Advances (4 * MAX_CHANNELS)
         (sending slave.old sent) (sending slave.new sent) []) }
 {
     for c in 0..MAX_CHANNELS as usize {
@@ -58,8 +57,8 @@ pub fn collect<R: Ring>(slave: &mut Slave<R>, parts: &mut Parts) -> Result<(), A
 }
 
 /// The same at one event channel.
-fn collect_at<R: Ring>(slave: &mut Slave<R>, c: usize, parts: &mut Parts) -> Result<(), AllocError>
-    ensures collects { OnOk result ((sent : List ℕ) → Advances R.Take.TakeEnd 4
+fn collect_at(slave: &mut Slave, c: usize, parts: &mut Parts) -> Result<(), AllocError>
+    ensures collects { OnOk result ((sent : List ℕ) → Advances 4
         (sending slave.old sent) (sending slave.new sent) []) }
 {
     let mut found = 0;

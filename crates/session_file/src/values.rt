@@ -10,10 +10,10 @@ use crate::file_fault::FileFault;
 use crate::keys::{has_file_keys, max_cto_of, text_or_empty};
 use crate::limits::MAX_LINES;
 use crate::memory_keys::{MemoryKeys, memory_of};
-use run_file::{array_at, id_of, number_at, ring_of, stamp_of, texts_at};
+use run_file::{array_at, id_of, number_at, stamp_of, texts_at};
 use toml::{Table, Value};
 use xcp_base::limits::MAX_UNIT;
-use xcp_base::{IdKind, RingKind, StampSize};
+use xcp_base::{IdKind, StampSize};
 
 /// The values of the keys, each of its type and within its limits. Segments and event channels are
 /// still values, and lines still texts.
@@ -22,7 +22,6 @@ pub struct Values<'a> {
     pub(crate) memory: MemoryKeys<'a>,
     pub(crate) id: IdKind,
     pub(crate) stamp: StampSize,
-    pub(crate) ring: RingKind,
     pub(crate) unit: u8,
     pub(crate) ticks: u16,
     pub(crate) max_cto: u8,
@@ -49,9 +48,6 @@ pub fn values_of(table: &Table) -> Result<Values<'_>, FileFault>
         return Err(FileFault::BadKey);
     };
     let Some(stamp) = stamp_of(table) else {
-        return Err(FileFault::BadKey);
-    };
-    let Some(ring) = ring_of(table) else {
         return Err(FileFault::BadKey);
     };
     let Some(unit) = number_at(table, "unit", 0, MAX_UNIT as usize) else {
@@ -85,7 +81,6 @@ pub fn values_of(table: &Table) -> Result<Values<'_>, FileFault>
         memory,
         id,
         stamp,
-        ring,
         unit: unit as u8,
         ticks: ticks as u16,
         max_cto: max_cto as u8,

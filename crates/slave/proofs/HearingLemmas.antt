@@ -4,7 +4,6 @@ use Rattle.std.specs.Prelude.{Some}
 use Rattle.xcp_base.specs.Lists.{has_list}
 use Rattle.xcp_base.specs.declared.err_code.ErrCode.{ErrCode}
 use Rattle.xcp_base.specs.declared.limits.TheConstants.{MAX_LISTS}
-use Rattle.channel_ring.specs.declared.ends.TakeEnd.{Ghosts as TakeGhosts}
 use Rattle.session.specs.Fields.{packet_of}
 use Rattle.session.specs.Past.{Given, Past}
 use Rattle.session.specs.Standing.{SessionStandsAfter, SessionState}
@@ -50,137 +49,134 @@ not-refused x packet code is = cc
 code-of : (packet : List ℕ) (code named : ErrCode) → Refused packet code ≡ Refused packet named → code ≡ named
 code-of packet code named is = cc
 
-module _ {S T : Type 0} where
-  -- the lists that the packet starts find no places, by their set
-  finds : (a b : SlaveState S T) {now : List (ChannelState S T)} (lists : ℕ) (packet : List ℕ) (past : Past) → WantsPlaces a.session lists now → b.channels ≡ now → SessionStandsAfter a.session past
-      → ((l : ℕ) → l < MAX_LISTS → has_list lists l ≡ starts a.session.profile past packet l) → FindsNoPlaces a.session.profile past packet b
-  finds a b lists packet past wants channels stands are =
-      let none = wants.none in
-      record {
-        channel = none.channel;
-        set = none.set;
-        state = none.state;
-        are = λ l below. (wants.are none.channel none.set none.lists_are).is past stands l below ∙ ap (λ x. x && is_on a.session.profile past none.channel l) (are l below);
-        some = none.some;
-        state_is = ap (λ xs. slice_get xs none.channel) channels ∙ none.state_is;
-        cannot = none.cannot;
-      }
+-- the lists that the packet starts find no places, by their set
+finds : (a b : SlaveState) {now : List ChannelState} (lists : ℕ) (packet : List ℕ) (past : Past) → WantsPlaces a.session lists now → b.channels ≡ now → SessionStandsAfter a.session past
+    → ((l : ℕ) → l < MAX_LISTS → has_list lists l ≡ starts a.session.profile past packet l) → FindsNoPlaces a.session.profile past packet b
+finds a b lists packet past wants channels stands are =
+    let none = wants.none in
+    record {
+      channel = none.channel;
+      set = none.set;
+      state = none.state;
+      are = λ l below. (wants.are none.channel none.set none.lists_are).is past stands l below ∙ ap (λ x. x && is_on a.session.profile past none.channel l) (are l below);
+      some = none.some;
+      state_is = ap (λ xs. slice_get xs none.channel) channels ∙ none.state_is;
+      cannot = none.cannot;
+    }
 
-module _ {S T : Type 0} where
-  -- a refusal where no list runs speaks of the event channels alone
-  idle-refused : (d : Profile) (past : Past) (number : ℕ) (k b : SlaveState S T) (code : ErrCode) (opening : List Act) → b.channels ≡ k.channels
-      → IsIdleRefusal d past number k code opening → IsIdleRefusal d past number b code opening
-  idle-refused d past number k b code opening channels is =
-      let back : HasNoRoom d past b → HasNoRoom d past k =
-      λ two. record { channel = two.channel; list = two.list; state = two.state; below = two.below; ready = two.ready; state_is = ap (λ xs. slice_get xs two.channel) (sym channels) ∙ two.state_is; two = two.two }
-      in
-      record {
-        unopened = λ none. (
-          λ busy.
-              let two = (is.unopened none).0 busy in
-              record { channel = two.channel; list = two.list; state = two.state; below = two.below; ready = two.ready; state_is = ap (λ xs. slice_get xs two.channel) channels ∙ two.state_is; two = two.two },
-          λ two. (is.unopened none).1 (back two),
-        );
-        ended = λ some two. is.ended some (back two);
-      }
+-- a refusal where no list runs speaks of the event channels alone
+idle-refused : (d : Profile) (past : Past) (number : ℕ) (k b : SlaveState) (code : ErrCode) (opening : List Act) → b.channels ≡ k.channels
+    → IsIdleRefusal d past number k code opening → IsIdleRefusal d past number b code opening
+idle-refused d past number k b code opening channels is =
+    let back : HasNoRoom d past b → HasNoRoom d past k =
+    λ two. record { channel = two.channel; list = two.list; state = two.state; below = two.below; ready = two.ready; state_is = ap (λ xs. slice_get xs two.channel) (sym channels) ∙ two.state_is; two = two.two }
+    in
+    record {
+      unopened = λ none. (
+        λ busy.
+            let two = (is.unopened none).0 busy in
+            record { channel = two.channel; list = two.list; state = two.state; below = two.below; ready = two.ready; state_is = ap (λ xs. slice_get xs two.channel) channels ∙ two.state_is; two = two.two },
+        λ two. (is.unopened none).1 (back two),
+      );
+      ended = λ some two. is.ended some (back two);
+    }
 
-module _ {S T F : Type 0} (take : TakeGhosts T F) where
-  goes-counted : (a b : SlaveState S T) (act : Act) (opening : List Act) → a.acts < MOST_ACTS + PER_PACKET → b.acts ≡ a.acts → cost act ≡ 3 → MayOpen most_before opening
-      → PartsGoBy take a b (act ∷ opening) → GoesBy take a (counting b PER_PACKET) (act ∷ opening)
-  goes-counted a b act opening fits counts own may_open goes =
-      let few = may_open.few in
-      counted take a (counting b PER_PACKET) (act ∷ opening) fits (omega (arith, few)) (omega (arith, counts, own, few, costs-before opening may_open.are)) (recounted take a b (act ∷ opening) PER_PACKET goes)
+goes-counted : (a b : SlaveState) (act : Act) (opening : List Act) → a.acts < MOST_ACTS + PER_PACKET → b.acts ≡ a.acts → cost act ≡ 3 → MayOpen most_before opening
+    → PartsGoBy a b (act ∷ opening) → GoesBy a (counting b PER_PACKET) (act ∷ opening)
+goes-counted a b act opening fits counts own may_open goes =
+    let few = may_open.few in
+    counted a (counting b PER_PACKET) (act ∷ opening) fits (omega (arith, few)) (omega (arith, counts, own, few, costs-before opening may_open.are)) (recounted a b (act ∷ opening) PER_PACKET goes)
 
-  -- a packet whose lists were started was answered
-  pub heard : (a k b : SlaveState S T) (lists : ℕ) (packet : List ℕ) (given : Given) → Prepares take most_before a k lists → k.session ≡ a.session → b.acts ≡ a.acts → a.acts < MOST_ACTS + PER_PACKET
-      → ((past : Past) → SessionStandsAfter a.session past → (l : ℕ) → l < MAX_LISTS → has_list lists l ≡ starts a.session.profile past packet l)
-      → Answers take k b packet given → Hears take a (counting b PER_PACKET) packet given
-  heard a k b lists packet given prepares same counts fits are answers =
-      let d = a.session.profile in
-      let profile : k.session.profile ≡ d = ap (λ (s : SessionState). s.profile) same in
-      record {
-        act = Heard answers.exchange;
-        opening = prepares.opening;
-        is = inl (answers.exchange, refl, answers.packet_is, answers.given_is);
-        may_open = prepares.may_open;
-        for_a_start = λ log stands.
-            elim prepares.for_some [
-              | inl none ↦ inl none
-              | inr some ↦ inr (some.0, some.1, sym (are (past_of d log) stands.parts.has.session some.0 some.1) ∙ some.2)
-            ];
-        places = λ log stands run code is other. absurd (not-refused answers.exchange packet code is);
-        when_idle = λ log stands none code is. absurd (not-refused answers.exchange packet code is);
-        goes = goes-counted a b (Heard answers.exchange) prepares.opening fits counts refl prepares.may_open (
-          answers.lines ∙ prepares.lines,
-          λ log few stands.
-              let before = prepares.opening ++ log in
-              let has = prepares.goes log (omega (arith, few)) stands in
-              subst (λ p. PartsStandAfter take p b (Heard answers.exchange ∷ before)) profile
-              (answers.goes before lists (omega (arith, few, length-append prepares.opening log))
-              (λ l below.
-              are (past_of d before) (subst (λ s. SessionStandsAfter s (past_of d before)) same has.session) l below
-              ∙ ap (λ p. starts p (past_of p before) packet l) (sym profile))
-              (subst (λ p. StartsWell p before packet) (sym profile)
-              (starts-well d before packet lists (λ l below. are (past_of d before) (subst (λ s. SessionStandsAfter s (past_of d before)) same has.session) l below)
-              (prepares.in_one log (omega (arith, few)) stands) (prepares.as_opened log (omega (arith, few)) stands) (prepares.has_parts log (omega (arith, few)) stands)))
-              (subst (λ p. SlaveStarted take p k before lists) (sym profile) has)),
-        );
-      }
+-- a packet whose lists were started was answered
+pub heard : (a k b : SlaveState) (lists : ℕ) (packet : List ℕ) (given : Given) → Prepares most_before a k lists → k.session ≡ a.session → b.acts ≡ a.acts → a.acts < MOST_ACTS + PER_PACKET
+    → ((past : Past) → SessionStandsAfter a.session past → (l : ℕ) → l < MAX_LISTS → has_list lists l ≡ starts a.session.profile past packet l)
+    → Answers k b packet given → Hears a (counting b PER_PACKET) packet given
+heard a k b lists packet given prepares same counts fits are answers =
+    let d = a.session.profile in
+    let profile : k.session.profile ≡ d = ap (λ (s : SessionState). s.profile) same in
+    record {
+      act = Heard answers.exchange;
+      opening = prepares.opening;
+      is = inl (answers.exchange, refl, answers.packet_is, answers.given_is);
+      may_open = prepares.may_open;
+      for_a_start = λ log stands.
+          elim prepares.for_some [
+            | inl none ↦ inl none
+            | inr some ↦ inr (some.0, some.1, sym (are (past_of d log) stands.parts.has.session some.0 some.1) ∙ some.2)
+          ];
+      places = λ log stands run code is other. absurd (not-refused answers.exchange packet code is);
+      when_idle = λ log stands none code is. absurd (not-refused answers.exchange packet code is);
+      goes = goes-counted a b (Heard answers.exchange) prepares.opening fits counts refl prepares.may_open (
+        answers.lines ∙ prepares.lines,
+        λ log few stands.
+            let before = prepares.opening ++ log in
+            let has = prepares.goes log (omega (arith, few)) stands in
+            subst (λ p. PartsStandAfter p b (Heard answers.exchange ∷ before)) profile
+            (answers.goes before lists (omega (arith, few, length-append prepares.opening log))
+            (λ l below.
+            are (past_of d before) (subst (λ s. SessionStandsAfter s (past_of d before)) same has.session) l below
+            ∙ ap (λ p. starts p (past_of p before) packet l) (sym profile))
+            (subst (λ p. StartsWell p before packet) (sym profile)
+            (starts-well d before packet lists (λ l below. are (past_of d before) (subst (λ s. SessionStandsAfter s (past_of d before)) same has.session) l below)
+            (prepares.in_one log (omega (arith, few)) stands) (prepares.as_opened log (omega (arith, few)) stands) (prepares.has_parts log (omega (arith, few)) stands)))
+            (subst (λ p. SlaveStarted p k before lists) (sym profile) has)),
+      );
+    }
 
-  -- a start was refused
-  pub refused : (a k b : SlaveState S T) (lists : ℕ) (packet : List ℕ) (given : Given) (code : ErrCode) → StartsInVain take most_before a k lists code → k.session ≡ a.session → k.acts ≡ a.acts → a.acts < MOST_ACTS + PER_PACKET
-      → ((past : Past) → SessionStandsAfter a.session past → (l : ℕ) → l < MAX_LISTS → has_list lists l ≡ starts a.session.profile past packet l)
-      → LaysReply k.outbox b.outbox (Some (packet_of (Err code))) → b ≡ record k { outbox = b.outbox } → Hears take a (counting b PER_PACKET) packet given
-  refused a k b lists packet given code vain same counts fits are lays rest =
-      let d = a.session.profile in
-      let session : b.session ≡ k.session = ap (λ (s : SlaveState S T). s.session) rest in
-      let channels : b.channels ≡ k.channels = ap (λ (s : SlaveState S T). s.channels) rest in
-      record {
-        act = Refused packet code;
-        opening = vain.opening;
-        is = inr (code, refl, vain.is);
-        may_open = vain.may_open;
-        for_a_start = λ log stands. inr (vain.some.0, vain.some.1, sym (are (past_of d log) stands.parts.has.session vain.some.0 vain.some.1) ∙ vain.some.2);
-        places = λ log stands run named is other.
-            let same-code = code-of packet code named is in
-            let past = past_of d log in
-            let found = vain.places past stands.parts.has.session run (λ e. other (sym same-code ∙ e)) in
-            (sym same-code ∙ found.0, finds a (counting b PER_PACKET) lists packet past found.1 channels stands.parts.has.session (λ l below. are past stands.parts.has.session l below));
-        when_idle = λ log stands none named is.
-            idle-refused a.session.profile (past_of d log) a.number k (counting b PER_PACKET) named vain.opening channels
-            (subst (λ z. IsIdleRefusal d (past_of d log) a.number k z vain.opening) (code-of packet code named is) (vain.when_idle (past_of d log) stands.parts.has.session none));
-        goes = goes-counted a b (Refused packet code) vain.opening fits (ap (λ (s : SlaveState S T). s.acts) rest ∙ counts) refl vain.may_open (
-          ap rings_of channels ∙ vain.goes.0,
-          λ log few stands.
-              let before = vain.opening ++ log in
-              let was = vain.goes.1 log (omega (arith, few)) stands in
-              let has = was.has in
-              let tie : (l : ℕ) → l < MAX_LISTS → has_list lists l ≡ starts d (past_of d before) packet l =
-              λ l below. are (past_of d before) (subst (λ s. SessionStandsAfter s (past_of d before)) same has.session) l below in
-              let reply = Some (packet_of (Err code)) in
-              record {
-                has = record {
-                  few = omega (arith, few, length-append vain.opening log);
-                  is_log = (
-                    (vain.some.0, vain.some.1, sym (tie vain.some.0 vain.some.1) ∙ vain.some.2),
-                    (
-                      λ is. other-starts d before packet lists tie ((vain.sequence log (omega (arith, few)) stands).0 is),
-                      λ other. (vain.sequence log (omega (arith, few)) stands).1 (starts-other d before packet lists tie other),
-                    ),
-                    has.is_log,
-                  );
-                  profile = ap (λ (s : SessionState). s.profile) (session ∙ same);
-                  session = subst (λ s. SessionStandsAfter s (past_of d before)) (sym session) has.session;
-                  outbox = reply-laid k.outbox b.outbox reply (sent_laid d before) (waits d before) lays has.outbox;
-                  channels = λ c ch at. has.channels c ch (ap (λ xs. slice_get xs c) (sym channels) ∙ at);
-                  out = λ c ch at. has.out c ch (ap (λ xs. slice_get xs c) (sym channels) ∙ at);
-                  as_logged = λ c ch at. has.as_logged c ch (ap (λ xs. slice_get xs c) (sym channels) ∙ at);
-                  many = ap length channels ∙ has.many;
-                  plan = ap (λ (s : SlaveState S T). s.plan) rest ∙ has.plan;
-                  account = subst (λ x. AccountStandsAfter x (entries_of d before) (late_in d before)) (sym (ap (λ (s : SlaveState S T). s.account) rest)) has.account;
-                  number = ap (λ (s : SlaveState S T). s.number) rest ∙ has.number;
-                };
-                ended = λ none c ch at. was.ended none c ch (ap (λ xs. slice_get xs c) (sym channels) ∙ at);
-              },
-        );
-      }
+-- a start was refused
+pub refused : (a k b : SlaveState) (lists : ℕ) (packet : List ℕ) (given : Given) (code : ErrCode) → StartsInVain most_before a k lists code → k.session ≡ a.session → k.acts ≡ a.acts → a.acts < MOST_ACTS + PER_PACKET
+    → ((past : Past) → SessionStandsAfter a.session past → (l : ℕ) → l < MAX_LISTS → has_list lists l ≡ starts a.session.profile past packet l)
+    → LaysReply k.outbox b.outbox (Some (packet_of (Err code))) → b ≡ record k { outbox = b.outbox } → Hears a (counting b PER_PACKET) packet given
+refused a k b lists packet given code vain same counts fits are lays rest =
+    let d = a.session.profile in
+    let session : b.session ≡ k.session = ap (λ (s : SlaveState). s.session) rest in
+    let channels : b.channels ≡ k.channels = ap (λ (s : SlaveState). s.channels) rest in
+    record {
+      act = Refused packet code;
+      opening = vain.opening;
+      is = inr (code, refl, vain.is);
+      may_open = vain.may_open;
+      for_a_start = λ log stands. inr (vain.some.0, vain.some.1, sym (are (past_of d log) stands.parts.has.session vain.some.0 vain.some.1) ∙ vain.some.2);
+      places = λ log stands run named is other.
+          let same-code = code-of packet code named is in
+          let past = past_of d log in
+          let found = vain.places past stands.parts.has.session run (λ e. other (sym same-code ∙ e)) in
+          (sym same-code ∙ found.0, finds a (counting b PER_PACKET) lists packet past found.1 channels stands.parts.has.session (λ l below. are past stands.parts.has.session l below));
+      when_idle = λ log stands none named is.
+          idle-refused a.session.profile (past_of d log) a.number k (counting b PER_PACKET) named vain.opening channels
+          (subst (λ z. IsIdleRefusal d (past_of d log) a.number k z vain.opening) (code-of packet code named is) (vain.when_idle (past_of d log) stands.parts.has.session none));
+      goes = goes-counted a b (Refused packet code) vain.opening fits (ap (λ (s : SlaveState). s.acts) rest ∙ counts) refl vain.may_open (
+        ap rings_of channels ∙ vain.goes.0,
+        λ log few stands.
+            let before = vain.opening ++ log in
+            let was = vain.goes.1 log (omega (arith, few)) stands in
+            let has = was.has in
+            let tie : (l : ℕ) → l < MAX_LISTS → has_list lists l ≡ starts d (past_of d before) packet l =
+            λ l below. are (past_of d before) (subst (λ s. SessionStandsAfter s (past_of d before)) same has.session) l below in
+            let reply = Some (packet_of (Err code)) in
+            record {
+              has = record {
+                few = omega (arith, few, length-append vain.opening log);
+                is_log = (
+                  (vain.some.0, vain.some.1, sym (tie vain.some.0 vain.some.1) ∙ vain.some.2),
+                  (
+                    λ is. other-starts d before packet lists tie ((vain.sequence log (omega (arith, few)) stands).0 is),
+                    λ other. (vain.sequence log (omega (arith, few)) stands).1 (starts-other d before packet lists tie other),
+                  ),
+                  has.is_log,
+                );
+                profile = ap (λ (s : SessionState). s.profile) (session ∙ same);
+                session = subst (λ s. SessionStandsAfter s (past_of d before)) (sym session) has.session;
+                outbox = reply-laid k.outbox b.outbox reply (sent_laid d before) (waits d before) lays has.outbox;
+                channels = λ c ch at. has.channels c ch (ap (λ xs. slice_get xs c) (sym channels) ∙ at);
+                out = λ c ch at. has.out c ch (ap (λ xs. slice_get xs c) (sym channels) ∙ at);
+                as_logged = λ c ch at. has.as_logged c ch (ap (λ xs. slice_get xs c) (sym channels) ∙ at);
+                many = ap length channels ∙ has.many;
+                plan = ap (λ (s : SlaveState). s.plan) rest ∙ has.plan;
+                account = subst (λ x. AccountStandsAfter x (entries_of d before) (late_in d before)) (sym (ap (λ (s : SlaveState). s.account) rest)) has.account;
+                number = ap (λ (s : SlaveState). s.number) rest ∙ has.number;
+              };
+              ended = λ none c ch at. was.ended none c ch (ap (λ xs. slice_get xs c) (sym channels) ∙ at);
+            },
+      );
+    }

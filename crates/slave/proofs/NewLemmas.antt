@@ -4,7 +4,7 @@ use Rattle.std.specs.Prelude.{Some, None}
 use Rattle.std.proofs.lemmas.Bool.{false≢true}
 use Rattle.std.proofs.lemmas.List.{length-map}
 use Rattle.channel_ring.specs.Ends.{RingName}
-use Rattle.channel_ring.specs.declared.ends.TakeEnd.{Ghosts as TakeGhosts}
+use Rattle.frame_ring.specs.declared.frame_send.FrameSend.{FrameSend}
 use Rattle.daq_store.specs.Configuration.{Configuration}
 use Rattle.session.specs.Past.{new_past}
 use Rattle.session.specs.Standing.{SessionStandsAfter, SessionState}
@@ -24,56 +24,55 @@ none_some : {X : Type 0} (x : X) → None ≡ Some x → ⊥
 none_some x e = cc
 
 -- as many event channels, and the tasks on their lines
-pub channels-many : {S T : Type 0} (n : ℕ) (channels : List (ChannelState S T)) (tasks : List (TaskState S)) → AreNew n channels tasks → length channels ≡ n
+pub channels-many : (n : ℕ) (channels : List ChannelState) (tasks : List (TaskState FrameSend)) → AreNew n channels tasks → length channels ≡ n
 channels-many n channels tasks new = ap length new.channels_are ∙ length-map new.rings no_measurement ∙ new.many
 
-rings-back : (S T : Type 0) (rings : List RingName) → rings_of {S = S} {T = T} (map no_measurement rings) ≡ rings
-rings-back S T [] = refl
-rings-back S T (r ∷ rings) = ap (λ rs. r ∷ rs) (rings-back S T rings)
+rings-back : (rings : List RingName) → rings_of (map no_measurement rings) ≡ rings
+rings-back [] = refl
+rings-back (r ∷ rings) = ap (λ rs. r ∷ rs) (rings-back rings)
 
-pub tasks-are : {S T : Type 0} (n : ℕ) (channels : List (ChannelState S T)) (tasks : List (TaskState S)) → AreNew n channels tasks → tasks ≡ map just_begun (rings_of channels)
+pub tasks-are : (n : ℕ) (channels : List ChannelState) (tasks : List (TaskState FrameSend)) → AreNew n channels tasks → tasks ≡ map just_begun (rings_of channels)
 tasks-are n channels tasks new =
-    new.tasks_are ∙ ap (map just_begun) (sym (rings-back _ _ new.rings) ∙ ap rings_of (sym new.channels_are))
+    new.tasks_are ∙ ap (map just_begun) (sym (rings-back new.rings) ∙ ap rings_of (sym new.channels_are))
 
-module _ {S T F : Type 0} (take : TakeGhosts T F) where
-  nothing-there : (d : Profile) (c : ℕ) (ring : RingName) → ChannelHas take {S = S} 0 (λ m. deeds_of d m c []) (no_measurement ring)
-  nothing-there d c ring = record {
-    newer = λ p is. absurd (none_some p is);
-    older = λ p is. absurd (none_some p is);
-    order = λ p q is at. absurd (none_some p is);
-    newest = λ on p is. absurd (none_some p is);
-    running = λ l below. refl;
-  }
+nothing-there : (d : Profile) (c : ℕ) (ring : RingName) → ChannelHas 0 (λ m. deeds_of d m c []) (no_measurement ring)
+nothing-there d c ring = record {
+  newer = λ p is. absurd (none_some p is);
+  older = λ p is. absurd (none_some p is);
+  order = λ p q is at. absurd (none_some p is);
+  newest = λ on p is. absurd (none_some p is);
+  running = λ l below. refl;
+}
 
-  nothing-out : (ring : RingName) → IsOut {S = S} {T = T} (λ m. false) (no_measurement ring)
-  nothing-out ring = record { newer = λ m at. absurd (none_some m at); older = λ m at. absurd (none_some m at); kept = λ m there. absurd (false≢true there) }
+nothing-out : (ring : RingName) → IsOut (λ m. false) (no_measurement ring)
+nothing-out ring = record { newer = λ m at. absurd (none_some m at); older = λ m at. absurd (none_some m at); kept = λ m there. absurd (false≢true there) }
 
-  nothing-opened : (d : Profile) (c : ℕ) (ring : RingName) → IsAsLogged {S = S} {T = T} d (logged d []) c (no_measurement ring)
-  nothing-opened d c ring = record { newer = λ p at. absurd (none_some p at); older = λ p at. absurd (none_some p at); came = refl }
+nothing-opened : (d : Profile) (c : ℕ) (ring : RingName) → IsAsLogged d (logged d []) c (no_measurement ring)
+nothing-opened d c ring = record { newer = λ p at. absurd (none_some p at); older = λ p at. absurd (none_some p at); came = refl }
 
-  -- it stands after nothing
-  pub new-stands : (d : Profile) (s : SessionState) (o : OutboxState) (channels : List (ChannelState S T)) (tasks : List (TaskState S)) (plan : List Configuration) (account : AccountState) (n : ℕ) → AccountStandsAfter account [] (λ m l. 0) → plan ≡ [] → s.profile ≡ d → SessionStandsAfter s new_past → OutboxStandsAfter o [] []
-      → AreNew n channels tasks → n ≡ length d.events.items
-      → SlaveStandsAfter take d (record { session = s; outbox = o; channels = channels; plan = plan; number = 0; account = account; acts = 0; next = 0 }) []
-  new-stands d s o channels tasks plan account n fresh none profile session outbox new many =
-      let each : (P : ChannelState S T → Type 0) → ((ring : RingName) → P (no_measurement ring)) → (c : ℕ) (ch : ChannelState S T) → slice_get channels c ≡ Some ch → P ch =
-      λ P all c ch at. at-map no_measurement P new.rings c ch all (ap (λ xs. slice_get xs c) (sym new.channels_are) ∙ at) in
-      let parts : PartsStandAfter take d (record { session = s; outbox = o; channels = channels; plan = plan; number = 0; account = account; acts = 0; next = 0 }) [] =
-      record {
-        has = record {
-          few = omega arith;
-          is_log = tt;
-          profile = profile;
-          session = session;
-          outbox = outbox;
-          channels = λ c ch at. each (ChannelHas take 0 (λ m. deeds_of d m c [])) (nothing-there d c) c ch at;
-          out = λ c ch at. each (IsOut (λ m. false)) nothing-out c ch at;
-          as_logged = λ c ch at. each (IsAsLogged d (logged d []) c) (nothing-opened d c) c ch at;
-          many = channels-many n channels tasks new ∙ many;
-          plan = none;
-          account = fresh;
-          number = refl;
-        };
-        ended = λ none c ch at. each (λ x. takes_orders x.link.newer ≡ false) (λ ring. refl) c ch at;
-      } in
-      record { parts = parts; counted = omega arith }
+-- it stands after nothing
+pub new-stands : (d : Profile) (s : SessionState) (o : OutboxState) (channels : List ChannelState) (tasks : List (TaskState FrameSend)) (plan : List Configuration) (account : AccountState) (n : ℕ) → AccountStandsAfter account [] (λ m l. 0) → plan ≡ [] → s.profile ≡ d → SessionStandsAfter s new_past → OutboxStandsAfter o [] []
+    → AreNew n channels tasks → n ≡ length d.events.items
+    → SlaveStandsAfter d (record { session = s; outbox = o; channels = channels; plan = plan; number = 0; account = account; acts = 0; next = 0 }) []
+new-stands d s o channels tasks plan account n fresh none profile session outbox new many =
+    let each : (P : ChannelState → Type 0) → ((ring : RingName) → P (no_measurement ring)) → (c : ℕ) (ch : ChannelState) → slice_get channels c ≡ Some ch → P ch =
+    λ P all c ch at. at-map no_measurement P new.rings c ch all (ap (λ xs. slice_get xs c) (sym new.channels_are) ∙ at) in
+    let parts : PartsStandAfter d (record { session = s; outbox = o; channels = channels; plan = plan; number = 0; account = account; acts = 0; next = 0 }) [] =
+    record {
+      has = record {
+        few = omega arith;
+        is_log = tt;
+        profile = profile;
+        session = session;
+        outbox = outbox;
+        channels = λ c ch at. each (ChannelHas 0 (λ m. deeds_of d m c [])) (nothing-there d c) c ch at;
+        out = λ c ch at. each (IsOut (λ m. false)) nothing-out c ch at;
+        as_logged = λ c ch at. each (IsAsLogged d (logged d []) c) (nothing-opened d c) c ch at;
+        many = channels-many n channels tasks new ∙ many;
+        plan = none;
+        account = fresh;
+        number = refl;
+      };
+      ended = λ none c ch at. each (λ x. takes_orders x.link.newer ≡ false) (λ ring. refl) c ch at;
+    } in
+    record { parts = parts; counted = omega arith }

@@ -2,9 +2,9 @@
 use Rattle.std.proofs.Common.{◌≡◌, ◌≢◌, ℕ, if◌then◌else◌, Bool, List, [], ◌∷◌, ◌++◌, map, refl, sym, ap, ◌∙◌, subst, inl, inr, append_assoc, append-nil}
 use Rattle.std.specs.Prelude.{Option, Some, None, option_to_list}
 use Rattle.std.proofs.lemmas.Bool.Decides.{eqb_tells}
-use Rattle.channel_ring.specs.declared.ends.SendEnd.{Ghosts as SendGhosts}
-use Rattle.channel_ring.specs.declared.ends.RingEnd.{Ghosts as EndGhosts}
-use Rattle.channel_ring.specs.declared.ends.TakeEnd.{Ghosts as TakeGhosts}
+use Rattle.frame_ring.specs.contracts.frame_left.FrameLeftRingEnd.TheImpl.{ghosts as ring}
+use Rattle.frame_ring.specs.declared.frame_left.FrameLeft.{FrameLeft}
+use Rattle.frame_ring.specs.declared.frame_send.FrameSend.{FrameSend}
 use Rattle.copy_plan.specs.Config.{ListPlan}
 use Rattle.sampler.specs.Decisions.{decided, pairs_of}
 use Rattle.sampler.specs.History.{Opening, due, with_past}
@@ -33,7 +33,7 @@ ends-lost xs ys l more lost =
     ap ends_in more ∙ ends-append xs (l ∷ []) ∙ ap (λ o. ends_in xs ++ (option_to_list o ++ [])) lost ∙ append-nil (ends_in xs)
 
 -- nothing came back, or what came is that it was lost
-pub none-ends : {S : Type 0} (x y : LinkState S) (waits : Bool) (a b : Option (AwayState S)) → NoneIsBack x y waits a b → ends_in y.came ≡ ends_in x.came
+pub none-ends : (x y : LinkState FrameSend) (waits : Bool) (a b : Option (AwayState FrameSend)) → NoneIsBack x y waits a b → ends_in y.came ≡ ends_in x.came
 none-ends x y waits a b none =
     elim none.way [
       | inl s ↦ ap ends_in s.nothing.came
@@ -48,35 +48,33 @@ none-due : (opening : Opening) → decided opening [] [] ≡ []
 unfolding due with_past
 none-due opening = refl
 
-module _ {E : Type 0} (ring : EndGhosts E) where
-  is-end : (e : SamplerEndState E) (past : Past) → EndStandsAfter (joined ring e) past → IsEndOf (seen_of ring e) past
-  is-end e past st = record { channel = st.channel; plans = st.plans; decisions = st.decisions; sent = st.sent; counts = st.counts }
+is-end : (e : SamplerEndState FrameLeft) (past : Past) → EndStandsAfter (joined ring e) past → IsEndOf (seen_of ring e) past
+is-end e past st = record { channel = st.channel; plans = st.plans; decisions = st.decisions; sent = st.sent; counts = st.counts }
 
-  untouched : (e : SamplerEndState E) (past : Past) (opening : Opening) → EndStandsAfter (joined ring e) past → EndStandsAfter (joined ring e) (first_past opening) → IsUntouched past
-  untouched e past opening st first = record {
-    sent = sym st.sent ∙ first.sent ∙ none-sent opening;
-    counts =
-        sym st.counts ∙ first.counts
-        ∙ ap (λ ds. map (λ (plan : ListPlan). counts_of (pairs_of plan.list ds)) opening.plans) (none-due opening)
-        ∙ ap (map (λ (plan : ListPlan). counts_of [])) (sym first.plans ∙ st.plans);
-  }
+untouched : (e : SamplerEndState FrameLeft) (past : Past) (opening : Opening) → EndStandsAfter (joined ring e) past → EndStandsAfter (joined ring e) (first_past opening) → IsUntouched past
+untouched e past opening st first = record {
+  sent = sym st.sent ∙ first.sent ∙ none-sent opening;
+  counts =
+      sym st.counts ∙ first.counts
+      ∙ ap (λ ds. map (λ (plan : ListPlan). counts_of (pairs_of plan.list ds)) opening.plans) (none-due opening)
+      ∙ ap (map (λ (plan : ListPlan). counts_of [])) (sym first.plans ∙ st.plans);
+}
 
-module _ {S E T F : Type 0} (send : SendGhosts S E) (ring : EndGhosts E) (take : TakeGhosts T F) where
-  returned-one : (x y : LinkState S) (a : AwayState S) (s : ShareState T) (f : FinishedState E T) (past : Past) (pasts : List Past)
-      → IsBack send ring take x y a s f → IsPastOf ring take f past → AreReturns pasts (ends_in x.came) → AreReturns (past ∷ pasts) (ends_in y.came)
-  returned-one x y a s f past pasts back is so_far =
-      let st : EndStandsAfter (joined ring back.end) past = subst (λ (j : JoinedEnd). EndStandsAfter j past) back.same is.stands in
-      elim back.way [
-        | inl n ↦ inr (ends_in x.came, (seen_of ring back.end, ends-some x.came y.came n.left (seen_of ring back.end) n.next.came n.is, is-end ring back.end past st, so_far))
-        | inr u ↦ inl (untouched ring back.end past u.opening st u.stands, subst (λ ends. AreReturns pasts (ends_in ends)) (sym u.nothing.came) so_far)
-      ]
+returned-one : (x y : LinkState FrameSend) (a : AwayState FrameSend) (s : ShareState) (f : FinishedState) (past : Past) (pasts : List Past)
+    → IsBack x y a s f → IsPastOf f past → AreReturns pasts (ends_in x.came) → AreReturns (past ∷ pasts) (ends_in y.came)
+returned-one x y a s f past pasts back is so_far =
+    let st : EndStandsAfter (joined ring back.end) past = subst (λ (j : JoinedEnd). EndStandsAfter j past) back.same is.stands in
+    elim back.way [
+      | inl n ↦ inr (ends_in x.came, (seen_of ring back.end, ends-some x.came y.came n.left (seen_of ring back.end) n.next.came n.is, is-end back.end past st, so_far))
+      | inr u ↦ inl (untouched back.end past u.opening st u.stands, subst (λ ends. AreReturns pasts (ends_in ends)) (sym u.nothing.came) so_far)
+    ]
 
-  -- one more came back
-  pub returned : (x y : LinkState S) (o : Option (AwayState S)) (p : Option (ShareState T)) (f : FinishedState E T) (past : Past) (pasts : List Past)
-      → IsBackOf send ring take x y o p f → IsPastOf ring take f past → AreReturns pasts (ends_in x.came) → AreReturns (past ∷ pasts) (ends_in y.came)
-  returned x y None p f past pasts back is so_far = elim back [ ]
-  returned x y (Some a) None f past pasts back is so_far = elim back [ ]
-  returned x y (Some a) (Some s) f past pasts back is so_far = returned-one x y a s f past pasts back is so_far
+-- one more came back
+pub returned : (x y : LinkState FrameSend) (o : Option (AwayState FrameSend)) (p : Option ShareState) (f : FinishedState) (past : Past) (pasts : List Past)
+    → IsBackOf x y o p f → IsPastOf f past → AreReturns pasts (ends_in x.came) → AreReturns (past ∷ pasts) (ends_in y.came)
+returned x y None p f past pasts back is so_far = elim back [ ]
+returned x y (Some a) None f past pasts back is so_far = elim back [ ]
+returned x y (Some a) (Some s) f past pasts back is so_far = returned-one x y a s f past pasts back is so_far
 
 -- by the log
 pub returns-here : (m c : ℕ) (past : Past) (log : List Act) → returns_at c (CameBack m c past ∷ log) ≡ past ∷ returns_at c log

@@ -5,7 +5,7 @@ use Rattle.std.proofs.lemmas.Bool.{false≢true}
 use Rattle.std.proofs.lemmas.Bool.Decides.{eqb_tells}
 use Rattle.xcp_base.specs.Lists.{has_list}
 use Rattle.xcp_base.specs.declared.limits.TheConstants.{MAX_LISTS, MAX_TAKEN}
-use Rattle.channel_ring.specs.declared.ends.TakeEnd.{Ghosts as TakeGhosts}
+use Rattle.frame_ring.specs.declared.frame_send.FrameSend.{FrameSend}
 use Rattle.session.specs.Starts.{is_on, runs}
 use Rattle.session.specs.declared.profile.Profile.{Profile}
 use Rattle.slave_outbox.specs.Deeds.{Deed}
@@ -61,10 +61,9 @@ started-here d act log lists c m tie newest =
     ap (λ b. if b then starts_noted (λ l. has_list lists l && is_on d (past_of d log) c l) MAX_LISTS ++ deeds_of d m c log else deeds_of d m c log) newest
     ∙ ap (λ xs. xs ++ deeds_of d m c log) (sym (starts-same MAX_LISTS (starts_on d c act log) (λ l. has_list lists l && is_on d (past_of d log) c l) tie))
 
-module _ {S : Type 0} where
-  quiet : (o : Option (AwayState S)) (l : ℕ) → takes_orders o ≡ false → is_running o l ≡ false
-  quiet None l off = refl
-  quiet (Some x) l off = ap (λ b. b && runs_of x l) off
+quiet : (o : Option (AwayState FrameSend)) (l : ℕ) → takes_orders o ≡ false → is_running o l ≡ false
+quiet None l off = refl
+quiet (Some x) l off = ap (λ b. b && runs_of x l) off
 
 and_false : (b : Bool) → (b && false) ≡ false
 and_false true = refl
@@ -102,95 +101,94 @@ stopped-deeds d act log lists stops c m running orders tie are runs_so false new
     ∙ ap (λ b. if b then starts_noted (λ l. has_list lists l && is_on d (past_of d log) c l) MAX_LISTS ++ deeds_of d m c log else deeds_of d m c log) newest
     ∙ sym (orders.deeds m c ∙ ap (λ b. if b then ordered_by d c act log (deeds_of d m c log) else deeds_of d m c log) newest)
 
-module _ {S T F : Type 0} (take : TakeGhosts T F) where
-  -- the lists that an act stops are stopped at an event channel
-  pub channel-stops : (d : Profile) (act : Act) (log : List Act) (lists stops c : ℕ) (a b : ChannelState S T) → 32 * (1 + length log) ≤ MAX_TAKEN → Orders d act log
-      → ((l : ℕ) → l < MAX_LISTS → starts_on d c act log l ≡ (has_list lists l && is_on d (past_of d log) c l))
-      → ((l : ℕ) → l < MAX_LISTS → has_list stops l ≡ stops_at d act log l)
-      → StopsAll take stops a b → ChannelHas take (opened log) (started d log lists c) a
-      → ChannelHas take (opened log) (λ m. deeds_of d m c (act ∷ log)) b
-  channel-stops d act log lists stops c a b few orders tie are stopped has =
-      let n = opened log in
-      let f = started d log lists c in
-      let set = λ (l : ℕ). has_list stops l && is_running a.link.newer l in
-      channel-same take n (newest_with n (stops_noted set MAX_LISTS) f) (λ m. deeds_of d m c (act ∷ log))
-      (λ m. stopped-deeds d act log lists stops c m (λ l. is_running a.link.newer l) orders tie are has.running (is_newest m log) refl) b
-      (channel-ordered take n f a b (stops_sent set MAX_LISTS) (stops_noted set MAX_LISTS) set false (stops-set set)
-      (λ off. stops-none MAX_LISTS set (λ l below. ap (λ r. has_list stops l && r) (quiet a.link.newer l off) ∙ and_false (has_list stops l)))
-      (λ l below is. inr refl)
-      (λ m. omega (arith, started-few d log lists c m, stops-few set MAX_LISTS, few))
-      stopped has)
+-- the lists that an act stops are stopped at an event channel
+pub channel-stops : (d : Profile) (act : Act) (log : List Act) (lists stops c : ℕ) (a b : ChannelState) → 32 * (1 + length log) ≤ MAX_TAKEN → Orders d act log
+    → ((l : ℕ) → l < MAX_LISTS → starts_on d c act log l ≡ (has_list lists l && is_on d (past_of d log) c l))
+    → ((l : ℕ) → l < MAX_LISTS → has_list stops l ≡ stops_at d act log l)
+    → StopsAll stops a b → ChannelHas (opened log) (started d log lists c) a
+    → ChannelHas (opened log) (λ m. deeds_of d m c (act ∷ log)) b
+channel-stops d act log lists stops c a b few orders tie are stopped has =
+    let n = opened log in
+    let f = started d log lists c in
+    let set = λ (l : ℕ). has_list stops l && is_running a.link.newer l in
+    channel-same n (newest_with n (stops_noted set MAX_LISTS) f) (λ m. deeds_of d m c (act ∷ log))
+    (λ m. stopped-deeds d act log lists stops c m (λ l. is_running a.link.newer l) orders tie are has.running (is_newest m log) refl) b
+    (channel-ordered n f a b (stops_sent set MAX_LISTS) (stops_noted set MAX_LISTS) set false (stops-set set)
+    (λ off. stops-none MAX_LISTS set (λ l below. ap (λ r. has_list stops l && r) (quiet a.link.newer l off) ∙ and_false (has_list stops l)))
+    (λ l below is. inr refl)
+    (λ m. omega (arith, started-few d log lists c m, stops-few set MAX_LISTS, few))
+    stopped has)
 
-  -- behind an act what runs at the event channels runs in the session; where none does, all have ended
-  pub settled : (d : Profile) (act : Act) (log : List Act) (lists before now : ℕ) (xs ys : List (ChannelState S T)) → 32 * (1 + length log) ≤ MAX_TAKEN → Orders d act log
-      → IsLog d (act ∷ log)
-      → ((c l : ℕ) → l < MAX_LISTS → starts_on d c act log l ≡ (has_list lists l && is_on d (past_of d log) c l))
-      → ((l : ℕ) → l < MAX_LISTS → has_list before l ≡ runs (past_of d log) l)
-      → ((l : ℕ) → l < MAX_LISTS → has_list now l ≡ runs (past_of d (act ∷ log)) l)
-      → Settles take xs ys before now
-      → ((c : ℕ) (ch : ChannelState S T) → slice_get xs c ≡ Some ch → ChannelHas take (opened log) (started d log lists c) ch)
-      → (c : ℕ) (ch : ChannelState S T) → slice_get ys c ≡ Some ch
-      → ChannelHas take (opened log) (λ m. deeds_of d m c (act ∷ log)) ch × (NoneRuns (past_of d (act ∷ log)) → takes_orders ch.link.newer ≡ false)
-  settled d act log lists before now xs ys few orders is_log tie was is settles has c ch at =
-      let are : (l : ℕ) → l < MAX_LISTS → has_list settles.lists l ≡ stops_at d act log l =
-      λ l below. settles.are l below ∙ ap (λ b. b && not (has_list now l)) (was l below) ∙ ap (λ b. runs (past_of d log) l && not b) (is l below) in
-      let stopped : (ch : ChannelState S T) → slice_get settles.stopped c ≡ Some ch → ChannelHas take (opened log) (λ m. deeds_of d m c (act ∷ log)) ch =
-      λ ch at.
-      let old = get_or xs c ch in
-      let there = was-there xs settles.stopped c ch settles.stops.as_many at in
-      channel-stops d act log lists settles.lists c old ch few orders (tie c) are (settles.stops.each c old ch there at) (has c old there) in
-      elim (is-bool settles.ends) [
-        | inl on ↦
-            let none : NoneRuns (past_of d (act ∷ log)) = λ l below. sym (is l below) ∙ settles.yes on l below in
-            let each = settles.ends_all on in
-            let old = get_or settles.stopped c ch in
-            let there = was-there settles.stopped ys c ch each.as_many at in (
-              channel-ends take (opened log) (λ m. deeds_of d m c (act ∷ log)) old ch (each.each c old ch there at)
-                  (λ l below. is-false _ (λ runs_so. false≢true (sym (none l below) ∙ (ties d (act ∷ log) is_log (opened log - 1) c l below runs_so).1)))
-                  (stopped old there),
-              λ quiet_now. takes-ended take old ch (each.each c old ch there at),
-            )
-        | inr off ↦ (
-          stopped ch (ap (λ zs. slice_get zs c) (sym (settles.goes_on off)) ∙ at),
-          λ quiet_now. absurd (false≢true (sym off ∙ settles.always (λ l below. is l below ∙ quiet_now l below))),
-        )
-      ]
+-- behind an act what runs at the event channels runs in the session; where none does, all have ended
+pub settled : (d : Profile) (act : Act) (log : List Act) (lists before now : ℕ) (xs ys : List ChannelState) → 32 * (1 + length log) ≤ MAX_TAKEN → Orders d act log
+    → IsLog d (act ∷ log)
+    → ((c l : ℕ) → l < MAX_LISTS → starts_on d c act log l ≡ (has_list lists l && is_on d (past_of d log) c l))
+    → ((l : ℕ) → l < MAX_LISTS → has_list before l ≡ runs (past_of d log) l)
+    → ((l : ℕ) → l < MAX_LISTS → has_list now l ≡ runs (past_of d (act ∷ log)) l)
+    → Settles xs ys before now
+    → ((c : ℕ) (ch : ChannelState) → slice_get xs c ≡ Some ch → ChannelHas (opened log) (started d log lists c) ch)
+    → (c : ℕ) (ch : ChannelState) → slice_get ys c ≡ Some ch
+    → ChannelHas (opened log) (λ m. deeds_of d m c (act ∷ log)) ch × (NoneRuns (past_of d (act ∷ log)) → takes_orders ch.link.newer ≡ false)
+settled d act log lists before now xs ys few orders is_log tie was is settles has c ch at =
+    let are : (l : ℕ) → l < MAX_LISTS → has_list settles.lists l ≡ stops_at d act log l =
+    λ l below. settles.are l below ∙ ap (λ b. b && not (has_list now l)) (was l below) ∙ ap (λ b. runs (past_of d log) l && not b) (is l below) in
+    let stopped : (ch : ChannelState) → slice_get settles.stopped c ≡ Some ch → ChannelHas (opened log) (λ m. deeds_of d m c (act ∷ log)) ch =
+    λ ch at.
+    let old = get_or xs c ch in
+    let there = was-there xs settles.stopped c ch settles.stops.as_many at in
+    channel-stops d act log lists settles.lists c old ch few orders (tie c) are (settles.stops.each c old ch there at) (has c old there) in
+    elim (is-bool settles.ends) [
+      | inl on ↦
+          let none : NoneRuns (past_of d (act ∷ log)) = λ l below. sym (is l below) ∙ settles.yes on l below in
+          let each = settles.ends_all on in
+          let old = get_or settles.stopped c ch in
+          let there = was-there settles.stopped ys c ch each.as_many at in (
+            channel-ends (opened log) (λ m. deeds_of d m c (act ∷ log)) old ch (each.each c old ch there at)
+                (λ l below. is-false _ (λ runs_so. false≢true (sym (none l below) ∙ (ties d (act ∷ log) is_log (opened log - 1) c l below runs_so).1)))
+                (stopped old there),
+            λ quiet_now. takes-ended old ch (each.each c old ch there at),
+          )
+      | inr off ↦ (
+        stopped ch (ap (λ zs. slice_get zs c) (sym (settles.goes_on off)) ∙ at),
+        λ quiet_now. absurd (false≢true (sym off ∙ settles.always (λ l below. is l below ∙ quiet_now l below))),
+      )
+    ]
 
-  -- and there are as many event channels
-  pub settled-many : (xs ys : List (ChannelState S T)) (before now : ℕ) → Settles take xs ys before now → length ys ≡ length xs
-  settled-many xs ys before now settles =
-      elim (is-bool settles.ends) [
-        | inl on ↦ (settles.ends_all on).as_many ∙ settles.stops.as_many
-        | inr off ↦ ap length (settles.goes_on off) ∙ settles.stops.as_many
-      ]
+-- and there are as many event channels
+pub settled-many : (xs ys : List ChannelState) (before now : ℕ) → Settles xs ys before now → length ys ≡ length xs
+settled-many xs ys before now settles =
+    elim (is-bool settles.ends) [
+      | inl on ↦ (settles.ends_all on).as_many ∙ settles.stops.as_many
+      | inr off ↦ ap length (settles.goes_on off) ∙ settles.stops.as_many
+    ]
 
-  -- each on its line
-  pub settled-lines : (xs ys : List (ChannelState S T)) (before now : ℕ) → Settles take xs ys before now → rings_of ys ≡ rings_of xs
-  settled-lines xs ys before now settles =
-      let stopped = lines-each (λ k. StopsAll take settles.lists) xs settles.stopped settles.stops (λ k x y orders. (keeps-orders take x y _ _ orders).ring) in
-      elim (is-bool settles.ends) [
-        | inl on ↦ lines-each (λ k. Ends) settles.stopped ys (settles.ends_all on) (λ k x y ends. (keeps-ends x y ends).ring) ∙ stopped
-        | inr off ↦ ap rings_of (settles.goes_on off) ∙ stopped
-      ]
+-- each on its line
+pub settled-lines : (xs ys : List ChannelState) (before now : ℕ) → Settles xs ys before now → rings_of ys ≡ rings_of xs
+settled-lines xs ys before now settles =
+    let stopped = lines-each (λ k. StopsAll settles.lists) xs settles.stopped settles.stops (λ k x y orders. (keeps-orders x y _ _ orders).ring) in
+    elim (is-bool settles.ends) [
+      | inl on ↦ lines-each (λ k. Ends) settles.stopped ys (settles.ends_all on) (λ k x y ends. (keeps-ends x y ends).ring) ∙ stopped
+      | inr off ↦ ap rings_of (settles.goes_on off) ∙ stopped
+    ]
 
-  -- and was opened as it was
-  pub settled-opens : (xs ys : List (ChannelState S T)) (before now : ℕ) (d : Profile) (pasts : Logged) → Settles take xs ys before now
-      → ((c : ℕ) (ch : ChannelState S T) → slice_get xs c ≡ Some ch → IsAsLogged d pasts c ch)
-      → (c : ℕ) (ch : ChannelState S T) → slice_get ys c ≡ Some ch → IsAsLogged d pasts c ch
-  settled-opens xs ys before now d pasts settles is c ch at =
-      let stopped = opened-each (λ k. StopsAll take settles.lists) xs settles.stopped d pasts settles.stops (λ k x y orders. keeps-orders take x y _ _ orders) is in
-      elim (is-bool settles.ends) [
-        | inl on ↦ opened-each (λ k. Ends) settles.stopped ys d pasts (settles.ends_all on) (λ k x y ends. keeps-ends x y ends) stopped c ch at
-        | inr off ↦ stopped c ch (ap (λ zs. slice_get zs c) (sym (settles.goes_on off)) ∙ at)
-      ]
+-- and was opened as it was
+pub settled-opens : (xs ys : List ChannelState) (before now : ℕ) (d : Profile) (pasts : Logged) → Settles xs ys before now
+    → ((c : ℕ) (ch : ChannelState) → slice_get xs c ≡ Some ch → IsAsLogged d pasts c ch)
+    → (c : ℕ) (ch : ChannelState) → slice_get ys c ≡ Some ch → IsAsLogged d pasts c ch
+settled-opens xs ys before now d pasts settles is c ch at =
+    let stopped = opened-each (λ k. StopsAll settles.lists) xs settles.stopped d pasts settles.stops (λ k x y orders. keeps-orders x y _ _ orders) is in
+    elim (is-bool settles.ends) [
+      | inl on ↦ opened-each (λ k. Ends) settles.stopped ys d pasts (settles.ends_all on) (λ k x y ends. keeps-ends x y ends) stopped c ch at
+      | inr off ↦ stopped c ch (ap (λ zs. slice_get zs c) (sym (settles.goes_on off)) ∙ at)
+    ]
 
-  -- what is kept is the same
-  pub settled-out : (xs ys : List (ChannelState S T)) (before now : ℕ) (out : ℕ → ℕ → Bool) → Settles take xs ys before now
-      → ((c : ℕ) (ch : ChannelState S T) → slice_get xs c ≡ Some ch → IsOut (out c) ch)
-      → (c : ℕ) (ch : ChannelState S T) → slice_get ys c ≡ Some ch → IsOut (out c) ch
-  settled-out xs ys before now out settles is c ch at =
-      let stopped = out-each (λ k. StopsAll take settles.lists) xs settles.stopped out settles.stops (λ k x y orders. keeps-orders take x y _ _ orders) is in
-      elim (is-bool settles.ends) [
-        | inl on ↦ out-each (λ k. Ends) settles.stopped ys out (settles.ends_all on) (λ k x y ends. keeps-ends x y ends) stopped c ch at
-        | inr off ↦ stopped c ch (ap (λ zs. slice_get zs c) (sym (settles.goes_on off)) ∙ at)
-      ]
+-- what is kept is the same
+pub settled-out : (xs ys : List ChannelState) (before now : ℕ) (out : ℕ → ℕ → Bool) → Settles xs ys before now
+    → ((c : ℕ) (ch : ChannelState) → slice_get xs c ≡ Some ch → IsOut (out c) ch)
+    → (c : ℕ) (ch : ChannelState) → slice_get ys c ≡ Some ch → IsOut (out c) ch
+settled-out xs ys before now out settles is c ch at =
+    let stopped = out-each (λ k. StopsAll settles.lists) xs settles.stopped out settles.stops (λ k x y orders. keeps-orders x y _ _ orders) is in
+    elim (is-bool settles.ends) [
+      | inl on ↦ out-each (λ k. Ends) settles.stopped ys out (settles.ends_all on) (λ k x y ends. keeps-ends x y ends) stopped c ch at
+      | inr off ↦ stopped c ch (ap (λ zs. slice_get zs c) (sym (settles.goes_on off)) ∙ at)
+    ]

@@ -5,7 +5,6 @@ use Rattle.std.proofs.lemmas.List.{length-map}
 use Rattle.std.proofs.lemmas.List.Elements.{All-from_recursion}
 use Rattle.std.specs.List.{AllByRecursion}
 use Rattle.xcp_base.specs.declared.limits.TheConstants.{MAX_LISTS}
-use Rattle.channel_ring.specs.declared.ends.TakeEnd.{Ghosts as TakeGhosts}
 use Rattle.session.specs.Profiles.{IsProfile}
 use Rattle.session.specs.declared.profile.Profile.{Profile}
 use Rattle.slave_outbox.specs.Deeds.{Deed, taken}
@@ -72,73 +71,72 @@ same-bool false true to from = from refl
 same-bool false false to from = refl
 
 -- a part that is kept, by its number
-part-numbered : {T : Type 0} (o : Option (ShareState T)) (m : ℕ) → number_of o ≡ Some m → (p : ShareState T) × (o ≡ Some p) × (p.number ≡ m)
-part-numbered None m is = absurd (cc)
+part-numbered : (o : Option ShareState) (m : ℕ) → number_of o ≡ Some m → (p : ShareState) × (o ≡ Some p) × (p.number ≡ m)
+part-numbered None m is = absurd cc
 part-numbered (Some p) m is = (p, refl, some-inj p.number m is)
 
-same-taken : {T F : Type 0} (take : TakeGhosts T F) (p : ShareState T) (m : ℕ) (f g : ℕ → List Deed) → p.number ≡ m → StandsAfter take p.intake (f p.number) → StandsAfter take p.intake (g p.number) → taken (f m) ≡ taken (g m)
-same-taken take p m f g is one other = subst (λ k. taken (f k) ≡ taken (g k)) is (sym one.received ∙ other.received)
+same-taken : (p : ShareState) (m : ℕ) (f g : ℕ → List Deed) → p.number ≡ m → StandsAfter p.intake (f p.number) → StandsAfter p.intake (g p.number) → taken (f m) ≡ taken (g m)
+same-taken p m f g is one other = subst (λ k. taken (f k) ≡ taken (g k)) is (sym one.received ∙ other.received)
 
-module _ {S T F : Type 0} (take : TakeGhosts T F) where
-  out-both : (f g : ℕ → Bool) (ch : ChannelState S T) (m : ℕ) → IsOut f ch → IsOut g ch → f m ≡ true → g m ≡ true
-  out-both f g ch m one other is =
-      elim (one.kept m is) [
-        | inl w ↦ other.newer m w
-        | inr w ↦ other.older m w
-      ]
+out-both : (f g : ℕ → Bool) (ch : ChannelState) (m : ℕ) → IsOut f ch → IsOut g ch → f m ≡ true → g m ≡ true
+out-both f g ch m one other is =
+    elim (one.kept m is) [
+      | inl w ↦ other.newer m w
+      | inr w ↦ other.older m w
+    ]
 
-  channel-at : (d : Profile) (s : SlaveState S T) (log : List Act) (c : ℕ) → SlaveHas take d s log → c < length d.events.items → (ch : ChannelState S T) × (slice_get s.channels c ≡ Some ch)
-  channel-at d s log c has within = some-at s.channels c (subst (λ n. c < n) (sym has.many) within)
+channel-at : (d : Profile) (s : SlaveState) (log : List Act) (c : ℕ) → SlaveHas d s log → c < length d.events.items → (ch : ChannelState) × (slice_get s.channels c ≡ Some ch)
+channel-at d s log c has within = some-at s.channels c (subst (λ n. c < n) (sym has.many) within)
 
-  same-out : (d : Profile) (s : SlaveState S T) (a b : List Act) → SlaveHas take d s a → SlaveHas take d s b → (m c : ℕ) → c < length d.events.items → is_out m c a ≡ is_out m c b
-  same-out d s a b one other m c within =
-      let (ch, at) = channel-at d s a c one within in
-      same-bool (is_out m c a) (is_out m c b)
-      (out-both (λ k. is_out k c a) (λ k. is_out k c b) ch m (one.out c ch at) (other.out c ch at))
-      (out-both (λ k. is_out k c b) (λ k. is_out k c a) ch m (other.out c ch at) (one.out c ch at))
+same-out : (d : Profile) (s : SlaveState) (a b : List Act) → SlaveHas d s a → SlaveHas d s b → (m c : ℕ) → c < length d.events.items → is_out m c a ≡ is_out m c b
+same-out d s a b one other m c within =
+    let (ch, at) = channel-at d s a c one within in
+    same-bool (is_out m c a) (is_out m c b)
+    (out-both (λ k. is_out k c a) (λ k. is_out k c b) ch m (one.out c ch at) (other.out c ch at))
+    (out-both (λ k. is_out k c b) (λ k. is_out k c a) ch m (other.out c ch at) (one.out c ch at))
 
-  same-items : (d : Profile) (s : SlaveState S T) (a b : List Act) → SlaveHas take d s a → SlaveHas take d s b → (m c : ℕ) → c < length d.events.items → is_out m c a ≡ true
-      → taken (deeds_of d m c a) ≡ taken (deeds_of d m c b)
-  same-items d s a b one other m c within out =
-      let (ch, at) = channel-at d s a c one within in
-      elim ((one.out c ch at).kept m out) [
-        | inl w ↦
-            let (p, is, number) = part-numbered ch.newer m w in
-            same-taken take p m (λ k. deeds_of d k c a) (λ k. deeds_of d k c b) number ((one.channels c ch at).newer p is).stands ((other.channels c ch at).newer p is).stands
-        | inr w ↦
-            let (p, is, number) = part-numbered ch.older m w in
-            same-taken take p m (λ k. deeds_of d k c a) (λ k. deeds_of d k c b) number ((one.channels c ch at).older p is).0.stands ((other.channels c ch at).older p is).0.stands
-      ]
+same-items : (d : Profile) (s : SlaveState) (a b : List Act) → SlaveHas d s a → SlaveHas d s b → (m c : ℕ) → c < length d.events.items → is_out m c a ≡ true
+    → taken (deeds_of d m c a) ≡ taken (deeds_of d m c b)
+same-items d s a b one other m c within out =
+    let (ch, at) = channel-at d s a c one within in
+    elim ((one.out c ch at).kept m out) [
+      | inl w ↦
+          let (p, is, number) = part-numbered ch.newer m w in
+          same-taken p m (λ k. deeds_of d k c a) (λ k. deeds_of d k c b) number ((one.channels c ch at).newer p is).stands ((other.channels c ch at).newer p is).stands
+      | inr w ↦
+          let (p, is, number) = part-numbered ch.older m w in
+          same-taken p m (λ k. deeds_of d k c a) (λ k. deeds_of d k c b) number ((one.channels c ch at).older p is).0.stands ((other.channels c ch at).older p is).0.stands
+    ]
 
-  same-packets-sent : (d : Profile) (s : SlaveState S T) (a b : List Act) → SlaveHas take d s a → SlaveHas take d s b → IsProfile d → packets_sent d a ≡ packets_sent d b
-  same-packets-sent d s a b one other profile =
-      same-packets 0 (packets_sent d a) (packets_sent d b) (sent-fits d a one.is_log profile) (sent-fits d b other.is_log profile) (sym one.outbox.gone ∙ other.outbox.gone)
+same-packets-sent : (d : Profile) (s : SlaveState) (a b : List Act) → SlaveHas d s a → SlaveHas d s b → IsProfile d → packets_sent d a ≡ packets_sent d b
+same-packets-sent d s a b one other profile =
+    same-packets 0 (packets_sent d a) (packets_sent d b) (sent-fits d a one.is_log profile) (sent-fits d b other.is_log profile) (sym one.outbox.gone ∙ other.outbox.gone)
 
-  -- as many packets were sent, modulo 65536
-  same-counter : (d : Profile) (s : SlaveState S T) (a b : List Act) → SlaveHas take d s a → SlaveHas take d s b → length (packets_sent d a) % 65536 ≡ length (packets_sent d b) % 65536
-  same-counter d s a b one other =
-      let many : (log : List Act) → length (packets_sent d log) ≡ length (sent_laid d log) = λ log. length-map (sent_laid d log) (λ (x : Laid). x.packet) in
-      ap (λ n. n % 65536) (many a) ∙ sym one.outbox.counter ∙ other.outbox.counter ∙ ap (λ n. n % 65536) (sym (many b))
+-- as many packets were sent, modulo 65536
+same-counter : (d : Profile) (s : SlaveState) (a b : List Act) → SlaveHas d s a → SlaveHas d s b → length (packets_sent d a) % 65536 ≡ length (packets_sent d b) % 65536
+same-counter d s a b one other =
+    let many : (log : List Act) → length (packets_sent d log) ≡ length (sent_laid d log) = λ log. length-map (sent_laid d log) (λ (x : Laid). x.packet) in
+    ap (λ n. n % 65536) (many a) ∙ sym one.outbox.counter ∙ other.outbox.counter ∙ ap (λ n. n % 65536) (sym (many b))
 
-  pub same-story : (d : Profile) (s : SlaveState S T) (a b : List Act) → PartsStandAfter take d s a → PartsStandAfter take d s b → SameStory d a b
-  same-story d s a b stands_a stands_b =
-      let one = stands_a.has in
-      let other = stands_b.has in
-      let totals = λ (l : ℕ) (below : l < MAX_LISTS). same-totals s.account (entries_of d a) (entries_of d b) (late_in d a) (late_in d b) l below one.account other.account in
-      record {
-        sent = sym one.outbox.gone ∙ other.outbox.gone;
-        waits_are =
-            text-mod (length (packets_sent d a)) (length (packets_sent d b)) (packets_in (waits d a)) (same-counter d s a b one other)
-            ∙ ap (λ xs. text (length (packets_sent d b)) (packets_in xs)) (sym one.outbox.waiting ∙ other.outbox.waiting);
-        packets = same-packets-sent d s a b one other;
-        counter = same-counter d s a b one other;
-        waits_are_same = sym one.outbox.waiting ∙ other.outbox.waiting;
-        due = λ l below. (totals l below).0;
-        dropped = λ l below. (totals l below).1;
-        written = λ l below. (totals l below).2;
-        accepted = λ l below. (totals l below).3;
-        measurements = sym one.number ∙ other.number;
-        plan = sym one.plan ∙ other.plan;
-        out = same-out d s a b one other;
-        items = same-items d s a b one other;
-      }
+pub same-story : (d : Profile) (s : SlaveState) (a b : List Act) → PartsStandAfter d s a → PartsStandAfter d s b → SameStory d a b
+same-story d s a b stands_a stands_b =
+    let one = stands_a.has in
+    let other = stands_b.has in
+    let totals = λ (l : ℕ) (below : l < MAX_LISTS). same-totals s.account (entries_of d a) (entries_of d b) (late_in d a) (late_in d b) l below one.account other.account in
+    record {
+      sent = sym one.outbox.gone ∙ other.outbox.gone;
+      waits_are =
+          text-mod (length (packets_sent d a)) (length (packets_sent d b)) (packets_in (waits d a)) (same-counter d s a b one other)
+          ∙ ap (λ xs. text (length (packets_sent d b)) (packets_in xs)) (sym one.outbox.waiting ∙ other.outbox.waiting);
+      packets = same-packets-sent d s a b one other;
+      counter = same-counter d s a b one other;
+      waits_are_same = sym one.outbox.waiting ∙ other.outbox.waiting;
+      due = λ l below. (totals l below).0;
+      dropped = λ l below. (totals l below).1;
+      written = λ l below. (totals l below).2;
+      accepted = λ l below. (totals l below).3;
+      measurements = sym one.number ∙ other.number;
+      plan = sym one.plan ∙ other.plan;
+      out = same-out d s a b one other;
+      items = same-items d s a b one other;
+    }

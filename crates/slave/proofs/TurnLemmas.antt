@@ -3,7 +3,6 @@ use Rattle.std.proofs.Common.{◌≡◌, ◌⊎◌, ℕ, ◌+◌, ◌<◌, ◌�
 use Rattle.std.specs.Prelude.{nat_le}
 use Rattle.std.proofs.lemmas.Bool.{false≢true}
 use Rattle.std.proofs.lemmas.Bool.Decides.{leb_tells}
-use Rattle.channel_ring.specs.declared.ends.TakeEnd.{Ghosts as TakeGhosts}
 use Rattle.slave.specs.Hearing.{is_spent}
 use Rattle.slave.specs.Standing.{SlaveState}
 use Rattle.slave.specs.Taking.{LooksAt, TakesFairly, known_of, newest_at, received_of}
@@ -55,93 +54,92 @@ by-looks looks turns next end c taken known counted has =
     let few = counted.most in
     record { most = omega (arith, few, has); least = λ some. let many = counted.least some in omega (arith, many, has) }
 
-module _ {S T F : Type 0} (take : TakeGhosts T F) where
-  -- the looks of a call
-  counts : (n : ℕ) (a b : SlaveState S T) (c : ℕ) → LooksAt take n a b c → Counts n (taken_by take c (a, b)) (length (known_of take (newest_at a c)))
-  counts n a b c looks =
-      let all : length (received_of take (newest_at b c)) ≡ length (received_of take (newest_at a c)) + length looks.taken = ap length looks.gains ∙ length-append (received_of take (newest_at a c)) looks.taken in
-      let few = looks.most in
-      record {
-        most = omega (arith, all, few);
-        least = λ some.
-            elim (leb_tells n (length looks.taken)) [
-              | inl w ↦ omega (arith, all, w.1)
-              | inr w ↦ let none = looks.fewer w.1 in absurd (omega (arith, all, none, some))
-            ];
-      }
+-- the looks of a call
+counts : (n : ℕ) (a b : SlaveState) (c : ℕ) → LooksAt n a b c → Counts n (taken_by c (a, b)) (length (known_of (newest_at a c)))
+counts n a b c looks =
+    let all : length (received_of (newest_at b c)) ≡ length (received_of (newest_at a c)) + length looks.taken = ap length looks.gains ∙ length-append (received_of (newest_at a c)) looks.taken in
+    let few = looks.most in
+    record {
+      most = omega (arith, all, few);
+      least = λ some.
+          elim (leb_tells n (length looks.taken)) [
+            | inl w ↦ omega (arith, all, w.1)
+            | inr w ↦ let none = looks.fewer w.1 in absurd (omega (arith, all, none, some))
+          ];
+    }
 
-  -- one call
-  call-turns : (a b : SlaveState S T) → TakesFairly take a b → is_spent b ≡ false → (turns : ℕ) × ((c : ℕ) → Turns turns a.next b.next c (taken_by take c (a, b)) (taken_by take c (a, b) < length (known_of take (newest_at a c))))
-  call-turns a b fair fresh =
-      let end : b.next ≡ fair.end = elim fair.next [
-        | inl e ↦ e
-        | inr spent ↦ absurd (false≢true (sym fresh ∙ spent))
-      ] in
-      subst (λ e. (turns : ℕ) × ((c : ℕ) → Turns turns a.next e c (taken_by take c (a, b)) (taken_by take c (a, b) < length (known_of take (newest_at a c))))) (sym end)
-      (elim (leb_tells a.next fair.end) [
-        | inl far ↦ (fair.rounds, λ c. up c (far.1) (from_tells a.next c) (from_tells fair.end c))
-        | inr near ↦ (fair.rounds + 1, λ c. round c (near.1) (from_tells a.next c) (from_tells fair.end c))
-      ]) where
-        known : ℕ → ℕ
-        known c = length (known_of take (newest_at a c))
+-- one call
+call-turns : (a b : SlaveState) → TakesFairly a b → is_spent b ≡ false → (turns : ℕ) × ((c : ℕ) → Turns turns a.next b.next c (taken_by c (a, b)) (taken_by c (a, b) < length (known_of (newest_at a c))))
+call-turns a b fair fresh =
+    let end : b.next ≡ fair.end = elim fair.next [
+      | inl e ↦ e
+      | inr spent ↦ absurd (false≢true (sym fresh ∙ spent))
+    ] in
+    subst (λ e. (turns : ℕ) × ((c : ℕ) → Turns turns a.next e c (taken_by c (a, b)) (taken_by c (a, b) < length (known_of (newest_at a c))))) (sym end)
+    (elim (leb_tells a.next fair.end) [
+      | inl far ↦ (fair.rounds, λ c. up c far.1 (from_tells a.next c) (from_tells fair.end c))
+      | inr near ↦ (fair.rounds + 1, λ c. round c near.1 (from_tells a.next c) (from_tells fair.end c))
+    ]) where
+      known : ℕ → ℕ
+      known c = length (known_of (newest_at a c))
 
-        by : (c looks turns : ℕ) → LooksAt take looks a b c → HasTurns looks turns a.next fair.end c → Turns turns a.next fair.end c (taken_by take c (a, b)) (taken_by take c (a, b) < known c)
-        by c looks turns at has = by-looks looks turns a.next fair.end c (taken_by take c (a, b)) (known c) (counts looks a b c at) has
+      by : (c looks turns : ℕ) → LooksAt looks a b c → HasTurns looks turns a.next fair.end c → Turns turns a.next fair.end c (taken_by c (a, b)) (taken_by c (a, b) < known c)
+      by c looks turns at has = by-looks looks turns a.next fair.end c (taken_by c (a, b)) (known c) (counts looks a b c at) has
 
-        up : (c : ℕ) → a.next ≤ fair.end → Tells a.next c → Tells fair.end c → Turns fair.rounds a.next fair.end c (taken_by take c (a, b)) (taken_by take c (a, b) < known c)
-        up c far (inl p) (inl q) = let high = q.0 in by c fair.rounds fair.rounds (fair.others c (λ w. elim w [
-          | inl v ↦ let low = v.1 in omega (arith, low, high)
-          | inr v ↦ let low = v.0 in omega (arith, low, far)
-        ])) (omega (arith, p.1, q.1))
-        up c far (inl p) (inr q) = by c (fair.rounds + 1) fair.rounds (fair.once_more c (inl (p.0, q.0))) (omega (arith, p.1, q.1))
-        up c far (inr p) (inl q) = let high = q.0 in let low = p.0 in absurd (omega (arith, high, low, far))
-        up c far (inr p) (inr q) = let below = p.0 in by c fair.rounds fair.rounds (fair.others c (λ w. elim w [
-          | inl v ↦ let low = v.0 in omega (arith, low, below)
-          | inr v ↦ let low = v.0 in omega (arith, low, far)
-        ])) (omega (arith, p.1, q.1))
+      up : (c : ℕ) → a.next ≤ fair.end → Tells a.next c → Tells fair.end c → Turns fair.rounds a.next fair.end c (taken_by c (a, b)) (taken_by c (a, b) < known c)
+      up c far (inl p) (inl q) = let high = q.0 in by c fair.rounds fair.rounds (fair.others c (λ w. elim w [
+        | inl v ↦ let low = v.1 in omega (arith, low, high)
+        | inr v ↦ let low = v.0 in omega (arith, low, far)
+      ])) (omega (arith, p.1, q.1))
+      up c far (inl p) (inr q) = by c (fair.rounds + 1) fair.rounds (fair.once_more c (inl (p.0, q.0))) (omega (arith, p.1, q.1))
+      up c far (inr p) (inl q) = let high = q.0 in let low = p.0 in absurd (omega (arith, high, low, far))
+      up c far (inr p) (inr q) = let below = p.0 in by c fair.rounds fair.rounds (fair.others c (λ w. elim w [
+        | inl v ↦ let low = v.0 in omega (arith, low, below)
+        | inr v ↦ let low = v.0 in omega (arith, low, far)
+      ])) (omega (arith, p.1, q.1))
 
-        round : (c : ℕ) → fair.end < a.next → Tells a.next c → Tells fair.end c → Turns (fair.rounds + 1) a.next fair.end c (taken_by take c (a, b)) (taken_by take c (a, b) < known c)
-        round c near (inl p) (inl q) = by c (fair.rounds + 1) (fair.rounds + 1) (fair.once_more c (inr (near, inl p.0))) (omega (arith, p.1, q.1))
-        round c near (inl p) (inr q) = let low = p.0 in let high = q.0 in absurd (omega (arith, low, high, near))
-        round c near (inr p) (inr q) = by c (fair.rounds + 1) (fair.rounds + 1) (fair.once_more c (inr (near, inr q.0))) (omega (arith, p.1, q.1))
-        round c near (inr p) (inl q) = let below = p.0 in let above = q.0 in by c fair.rounds (fair.rounds + 1) (fair.others c (λ w. elim w [
-          | inl v ↦ let low = v.0 in omega (arith, low, below)
-          | inr v ↦ elim v.1 [
-            | inl low ↦ omega (arith, low, below)
-            | inr high ↦ omega (arith, high, above)
-          ]
-        ])) (omega (arith, p.1, q.1))
+      round : (c : ℕ) → fair.end < a.next → Tells a.next c → Tells fair.end c → Turns (fair.rounds + 1) a.next fair.end c (taken_by c (a, b)) (taken_by c (a, b) < known c)
+      round c near (inl p) (inl q) = by c (fair.rounds + 1) (fair.rounds + 1) (fair.once_more c (inr (near, inl p.0))) (omega (arith, p.1, q.1))
+      round c near (inl p) (inr q) = let low = p.0 in let high = q.0 in absurd (omega (arith, low, high, near))
+      round c near (inr p) (inr q) = by c (fair.rounds + 1) (fair.rounds + 1) (fair.once_more c (inr (near, inr q.0))) (omega (arith, p.1, q.1))
+      round c near (inr p) (inl q) = let below = p.0 in let above = q.0 in by c fair.rounds (fair.rounds + 1) (fair.others c (λ w. elim w [
+        | inl v ↦ let low = v.0 in omega (arith, low, below)
+        | inr v ↦ elim v.1 [
+          | inl low ↦ omega (arith, low, below)
+          | inr high ↦ omega (arith, high, above)
+        ]
+      ])) (omega (arith, p.1, q.1))
 
-  -- and many
-  record Has (next : ℕ) (calls : List (Call S T)) : Type 0 where
-    turns : ℕ
-    end : ℕ
-    each : (c : ℕ) → Turns turns next end c (taken_by_all take c calls) (LeaveSome take c calls)
+-- and many
+record Has (next : ℕ) (calls : List Call) : Type 0 where
+  turns : ℕ
+  end : ℕ
+  each : (c : ℕ) → Turns turns next end c (taken_by_all c calls) (LeaveSome c calls)
 
-  has : (next : ℕ) (calls : List (Call S T)) → TakeByTurns take next calls → Has next calls
-  has next [] by = record { turns = 0; end = next; each = λ c. record { most = omega arith; least = λ some. omega arith } }
-  has next ((a, b) ∷ calls) (begins, fair, fresh, rest) =
-      let (turns, one) = call-turns a b fair fresh in
-      let more = has b.next calls rest in
-      subst (λ n. Has n ((a, b) ∷ calls)) begins
-      (record {
-        turns = turns + more.turns;
-        end = more.end;
-        each = λ c.
-            let t = one c in
-            let u = more.each c in
-            let few = t.most in
-            let few_more = u.most in
-            record {
-              most = omega (arith, few, few_more);
-              least = λ some. let many = t.least some.0 in let many_more = u.least some.1 in omega (arith, many, many_more);
-            };
-      })
+has : (next : ℕ) (calls : List Call) → TakeByTurns next calls → Has next calls
+has next [] by = record { turns = 0; end = next; each = λ c. record { most = omega arith; least = λ some. omega arith } }
+has next ((a, b) ∷ calls) (begins, fair, fresh, rest) =
+    let (turns, one) = call-turns a b fair fresh in
+    let more = has b.next calls rest in
+    subst (λ n. Has n ((a, b) ∷ calls)) begins
+    (record {
+      turns = turns + more.turns;
+      end = more.end;
+      each = λ c.
+          let t = one c in
+          let u = more.each c in
+          let few = t.most in
+          let few_more = u.most in
+          record {
+            most = omega (arith, few, few_more);
+            least = λ some. let many = t.least some.0 in let many_more = u.least some.1 in omega (arith, many, many_more);
+          };
+    })
 
-  pub fair-shares : FairShares take S
-  fair-shares next calls c k by some =
-      let all = has next calls by in
-      let one = all.each c in
-      let two = all.each k in
-      within-one (taken_by_all take c calls) (taken_by_all take k calls) all.turns next all.end c k one.most (two.least some)
-      (from_tells next c) (from_tells all.end c) (from_tells next k) (from_tells all.end k)
+pub fair-shares : FairShares
+fair-shares next calls c k by some =
+    let all = has next calls by in
+    let one = all.each c in
+    let two = all.each k in
+    within-one (taken_by_all c calls) (taken_by_all k calls) all.turns next all.end c k one.most (two.least some)
+    (from_tells next c) (from_tells all.end c) (from_tells next k) (from_tells all.end k)

@@ -7,7 +7,6 @@ use Rattle.std.proofs.lemmas.List.{length-drop}
 use Rattle.xcp_base.specs.Samples.{SampleParts}
 use Rattle.xcp_base.specs.declared.item.Item.TheVariants.{Marker, Sample}
 use Rattle.channel_ring.specs.Making.{ArePackets}
-use Rattle.channel_ring.specs.declared.ends.TakeEnd.{Ghosts as TakeGhosts}
 use Rattle.xcp_base.specs.Counts.{one_if}
 use Rattle.session.specs.Exchanges.{reply_in}
 use Rattle.session.specs.declared.profile.Profile.{Profile}
@@ -69,8 +68,8 @@ few-wait d HungUp log is = omega arith
 few-wait d Discarded log is = omega arith
 
 -- what holds of a slave as it stood inside a call
-pub fits-of : {S T : Type 0} (v w : SlaveState S T) → w ≡ v → w.acts < MOST_ACTS + PER_PACKET → v.acts < MOST_ACTS + PER_PACKET
-fits-of v w same fits = subst (λ (s : SlaveState _ _). s.acts < MOST_ACTS + PER_PACKET) same fits
+pub fits-of : (v w : SlaveState) → w ≡ v → w.acts < MOST_ACTS + PER_PACKET → v.acts < MOST_ACTS + PER_PACKET
+fits-of v w same fits = subst (λ (s : SlaveState). s.acts < MOST_ACTS + PER_PACKET) same fits
 
 -- so one act more weighs no more than it costs
 weight-act : (d : Profile) (act : Act) (log : List Act) → IsLog d (act ∷ log) → weight d (act ∷ log) ≤ weight d log + cost act
@@ -119,106 +118,105 @@ weight-hung d log on =
     let one : one_if (past_of d log).connected ≡ 1 = ap one_if on in
     omega (arith, one)
 
-module _ {S T F : Type 0} (take : TakeGhosts T F) where
-  -- a log of a slave that isn't spent is short
-  pub short : (d : Profile) (s : SlaveState S T) (log : List Act) → s.acts < MOST_ACTS + PER_PACKET → SlaveStandsAfter take d s log → length log < MOST_ACTS + PER_PACKET
-  short d s log fits stands = omega (arith, fits, stands.counted)
+-- a log of a slave that isn't spent is short
+pub short : (d : Profile) (s : SlaveState) (log : List Act) → s.acts < MOST_ACTS + PER_PACKET → SlaveStandsAfter d s log → length log < MOST_ACTS + PER_PACKET
+short d s log fits stands = omega (arith, fits, stands.counted)
 
-  -- how much was counted, and where the next look begins, are no parts of this
-  pub beside : (d : Profile) (s : SlaveState S T) (n k : ℕ) (log : List Act) → PartsStandAfter take d s log → PartsStandAfter take d (record s { acts = n; next = k }) log
-  beside d s n k log stands =
-      let has = stands.has in
+-- how much was counted, and where the next look begins, are no parts of this
+pub beside : (d : Profile) (s : SlaveState) (n k : ℕ) (log : List Act) → PartsStandAfter d s log → PartsStandAfter d (record s { acts = n; next = k }) log
+beside d s n k log stands =
+    let has = stands.has in
+    record {
+      has = record {
+        few = has.few;
+        is_log = has.is_log;
+        profile = has.profile;
+        session = has.session;
+        outbox = has.outbox;
+        channels = has.channels;
+        out = has.out;
+        as_logged = has.as_logged;
+        many = has.many;
+        plan = has.plan;
+        number = has.number;
+        account = has.account;
+      };
+      ended = stands.ended;
+    }
+
+-- what is counted changes nothing of this
+pub recounted : (a b : SlaveState) (acts : List Act) (n : ℕ) → PartsGoBy a b acts → PartsGoBy a (counting b n) acts
+recounted a b acts n goes = (goes.0, λ log few stands. beside a.session.profile b (b.acts + n) b.next (acts ++ log) (goes.1 log few stands))
+
+-- nor where the next look begins
+pub goes-next : (a b : SlaveState) (acts : List Act) (k : ℕ) → GoesBy a b acts → GoesBy a (record b { next = k }) acts
+goes-next a b acts k goes = (
+  goes.0,
+  λ log stands.
+      let now = goes.1 log stands in
+      record { parts = beside a.session.profile b b.acts k (acts ++ log) now.parts; counted = now.counted },
+)
+
+-- a slave goes on as its parts do, if it counts what the acts cost
+pub counted : (a b : SlaveState) (acts : List Act) → a.acts < MOST_ACTS + PER_PACKET → length acts ≤ 2 + 2 * MAX_CHANNELS → a.acts + costs acts ≤ b.acts → PartsGoBy a b acts → GoesBy a b acts
+counted a b acts fits few more goes = (
+  goes.0,
+  λ log stands.
+      let d = a.session.profile in
+      let parts = goes.1 log (omega (arith, few, short d a log fits stands)) stands.parts in
+      record { parts = parts; counted = omega (arith, more, stands.counted, weight-acts d acts log parts.has.is_log) },
+)
+
+-- and where it counts nothing: what waited was sent, or nothing was
+pub counted-sent : (a b : SlaveState) (n : ℕ) → a.acts < MOST_ACTS + PER_PACKET → b.acts ≡ a.acts → PartsGoBy a b (Sent n ∷ []) → (n ≡ 0 → PartsGoBy a b []) → GoesBy a b (sending n)
+counted-sent a b zero fits same goes none = counted a b [] fits (omega arith) (omega (arith, same)) (none refl)
+counted-sent a b (suc n) fits same goes none = (
+  goes.0,
+  λ log stands.
+      let d = a.session.profile in
+      let parts = goes.1 log (omega (arith, short d a log fits stands)) stands.parts in
+      record { parts = parts; counted = omega (arith, same, stands.counted, weight-sent d n log parts.has.is_log.0) },
+)
+
+-- or all that waited was thrown away
+counted-thrown : (a b : SlaveState) → a.acts < MOST_ACTS + PER_PACKET → b.acts ≡ a.acts → 0 < length a.outbox.waits → PartsGoBy a b (Discarded ∷ []) → GoesBy a b (Discarded ∷ [])
+counted-thrown a b fits same some goes = (
+  goes.0,
+  λ log stands.
+      let d = a.session.profile in
+      let many : length a.outbox.waits ≡ length (waits d log) = ap length stands.parts.has.outbox.waiting in
       record {
-        has = record {
-          few = has.few;
-          is_log = has.is_log;
-          profile = has.profile;
-          session = has.session;
-          outbox = has.outbox;
-          channels = has.channels;
-          out = has.out;
-          as_logged = has.as_logged;
-          many = has.many;
-          plan = has.plan;
-          number = has.number;
-          account = has.account;
-        };
-        ended = stands.ended;
-      }
+        parts = goes.1 log (omega (arith, short d a log fits stands)) stands.parts;
+        counted = omega (arith, same, stands.counted, weight-thrown d log (omega (arith, some, many)));
+      },
+)
 
-  -- what is counted changes nothing of this
-  pub recounted : (a b : SlaveState S T) (acts : List Act) (n : ℕ) → PartsGoBy take a b acts → PartsGoBy take a (counting b n) acts
-  recounted a b acts n goes = (goes.0, λ log few stands. beside a.session.profile b (b.acts + n) b.next (acts ++ log) (goes.1 log few stands))
+-- by whether something waited
+pub thrown : (a b : SlaveState) → a.acts < MOST_ACTS + PER_PACKET → b.acts ≡ a.acts → has_waiting a.outbox ≡ true → PartsGoBy a b (Discarded ∷ []) → GoesBy a b (discarding (has_waiting a.outbox))
+thrown a b fits same some goes =
+    subst (λ x. GoesBy a b (discarding x)) (sym some) (counted-thrown a b fits same (waiting-some (length a.outbox.waits) some) goes) where
+      waiting-some : (n : ℕ) → nat_lt 0 n ≡ true → 0 < n
+      waiting-some zero is = absurd (false≢true is)
+      waiting-some (suc n) is = omega arith
 
-  -- nor where the next look begins
-  pub goes-next : (a b : SlaveState S T) (acts : List Act) (k : ℕ) → GoesBy take a b acts → GoesBy take a (record b { next = k }) acts
-  goes-next a b acts k goes = (
-    goes.0,
-    λ log stands.
-        let now = goes.1 log stands in
-        record { parts = beside a.session.profile b b.acts k (acts ++ log) now.parts; counted = now.counted },
-  )
+pub not-thrown : (a : SlaveState) → has_waiting a.outbox ≡ false → GoesBy a a (discarding (has_waiting a.outbox))
+not-thrown a none = subst (λ x. GoesBy a a (discarding x)) (sym none) (refl, λ log stands. stands)
 
-  -- a slave goes on as its parts do, if it counts what the acts cost
-  pub counted : (a b : SlaveState S T) (acts : List Act) → a.acts < MOST_ACTS + PER_PACKET → length acts ≤ 2 + 2 * MAX_CHANNELS → a.acts + costs acts ≤ b.acts → PartsGoBy take a b acts → GoesBy take a b acts
-  counted a b acts fits few more goes = (
-    goes.0,
-    λ log stands.
-        let d = a.session.profile in
-        let parts = goes.1 log (omega (arith, few, short d a log fits stands)) stands.parts in
-        record { parts = parts; counted = omega (arith, more, stands.counted, weight-acts d acts log parts.has.is_log) },
-  )
+-- or a master that was connected hung up
+counted-hung : (a b : SlaveState) → a.acts < MOST_ACTS + PER_PACKET → b.acts ≡ a.acts → a.session.connected ≡ true → PartsGoBy a b (HungUp ∷ []) → GoesBy a b (HungUp ∷ [])
+counted-hung a b fits same on goes = (
+  goes.0,
+  λ log stands.
+      let d = a.session.profile in
+      record {
+        parts = goes.1 log (omega (arith, short d a log fits stands)) stands.parts;
+        counted = omega (arith, same, stands.counted, weight-hung d log (sym stands.parts.has.session.connected ∙ on));
+      },
+)
 
-  -- and where it counts nothing: what waited was sent, or nothing was
-  pub counted-sent : (a b : SlaveState S T) (n : ℕ) → a.acts < MOST_ACTS + PER_PACKET → b.acts ≡ a.acts → PartsGoBy take a b (Sent n ∷ []) → (n ≡ 0 → PartsGoBy take a b []) → GoesBy take a b (sending n)
-  counted-sent a b zero fits same goes none = counted a b [] fits (omega arith) (omega (arith, same)) (none refl)
-  counted-sent a b (suc n) fits same goes none = (
-    goes.0,
-    λ log stands.
-        let d = a.session.profile in
-        let parts = goes.1 log (omega (arith, short d a log fits stands)) stands.parts in
-        record { parts = parts; counted = omega (arith, same, stands.counted, weight-sent d n log parts.has.is_log.0) },
-  )
+-- by whether one was connected
+pub hung : (a b : SlaveState) → a.acts < MOST_ACTS + PER_PACKET → b.acts ≡ a.acts → a.session.connected ≡ true → PartsGoBy a b (HungUp ∷ []) → GoesBy a b (losing a.session.connected)
+hung a b fits same on goes = subst (λ x. GoesBy a b (losing x)) (sym on) (counted-hung a b fits same on goes)
 
-  -- or all that waited was thrown away
-  counted-thrown : (a b : SlaveState S T) → a.acts < MOST_ACTS + PER_PACKET → b.acts ≡ a.acts → 0 < length a.outbox.waits → PartsGoBy take a b (Discarded ∷ []) → GoesBy take a b (Discarded ∷ [])
-  counted-thrown a b fits same some goes = (
-    goes.0,
-    λ log stands.
-        let d = a.session.profile in
-        let many : length a.outbox.waits ≡ length (waits d log) = ap length stands.parts.has.outbox.waiting in
-        record {
-          parts = goes.1 log (omega (arith, short d a log fits stands)) stands.parts;
-          counted = omega (arith, same, stands.counted, weight-thrown d log (omega (arith, some, many)));
-        },
-  )
-
-  -- by whether something waited
-  pub thrown : (a b : SlaveState S T) → a.acts < MOST_ACTS + PER_PACKET → b.acts ≡ a.acts → has_waiting a.outbox ≡ true → PartsGoBy take a b (Discarded ∷ []) → GoesBy take a b (discarding (has_waiting a.outbox))
-  thrown a b fits same some goes =
-      subst (λ x. GoesBy take a b (discarding x)) (sym some) (counted-thrown a b fits same (waiting-some (length a.outbox.waits) some) goes) where
-        waiting-some : (n : ℕ) → nat_lt 0 n ≡ true → 0 < n
-        waiting-some zero is = absurd (false≢true is)
-        waiting-some (suc n) is = omega arith
-
-  pub not-thrown : (a : SlaveState S T) → has_waiting a.outbox ≡ false → GoesBy take a a (discarding (has_waiting a.outbox))
-  not-thrown a none = subst (λ x. GoesBy take a a (discarding x)) (sym none) (refl, λ log stands. stands)
-
-  -- or a master that was connected hung up
-  counted-hung : (a b : SlaveState S T) → a.acts < MOST_ACTS + PER_PACKET → b.acts ≡ a.acts → a.session.connected ≡ true → PartsGoBy take a b (HungUp ∷ []) → GoesBy take a b (HungUp ∷ [])
-  counted-hung a b fits same on goes = (
-    goes.0,
-    λ log stands.
-        let d = a.session.profile in
-        record {
-          parts = goes.1 log (omega (arith, short d a log fits stands)) stands.parts;
-          counted = omega (arith, same, stands.counted, weight-hung d log (sym stands.parts.has.session.connected ∙ on));
-        },
-  )
-
-  -- by whether one was connected
-  pub hung : (a b : SlaveState S T) → a.acts < MOST_ACTS + PER_PACKET → b.acts ≡ a.acts → a.session.connected ≡ true → PartsGoBy take a b (HungUp ∷ []) → GoesBy take a b (losing a.session.connected)
-  hung a b fits same on goes = subst (λ x. GoesBy take a b (losing x)) (sym on) (counted-hung a b fits same on goes)
-
-  pub not-hung : (a : SlaveState S T) → a.session.connected ≡ false → GoesBy take a a (losing a.session.connected)
-  not-hung a off = subst (λ x. GoesBy take a a (losing x)) (sym off) (refl, λ log stands. stands)
+pub not-hung : (a : SlaveState) → a.session.connected ≡ false → GoesBy a a (losing a.session.connected)
+not-hung a off = subst (λ x. GoesBy a a (losing x)) (sym off) (refl, λ log stands. stands)

@@ -4,7 +4,7 @@ use Rattle.std.specs.Prelude.{length, map}
 use Rattle.std.specs.Prelude.{slice_get, Some}
 use Rattle.std.specs.List.{list_all}
 use Rattle.xcp_base.specs.declared.limits.TheConstants.{MAX_CHANNELS}
-use Rattle.channel_ring.specs.declared.ends.TakeEnd.{Ghosts as TakeGhosts}
+use Rattle.frame_ring.specs.declared.frame_send.FrameSend.{FrameSend}
 use Rattle.slave_outbox.specs.Outboxes.{has_waiting}
 use Rattle.session.specs.declared.profile.Profile.{Profile}
 use Rattle.slave_channels.specs.Channels.{ChannelState}
@@ -21,13 +21,13 @@ use Rattle.slave.specs.Standing.{IsLog, SlaveStandsAfter, SlaveState}
 
 -- what came back of each event channel is what its task gave back, each once and in order, beside
 -- samplers that the task never fetched
-abbrev pub AreOfTasks : {S : Type 0} → List (TaskEndState S) → List Act → Type 0
+abbrev pub AreOfTasks : List (TaskEndState FrameSend) → List Act → Type 0
 AreOfTasks ends log =
     (c : ℕ) (end : TaskEndState _) → slice_get ends c ≡ Some end
     → AreReturns (returns_at c log) (ends_in end.gave)
 
 -- these are the ends of the tasks of event channels, in their order: each is of its line
-abbrev pub AreEndsOf : {S T : Type 0} → List (ChannelState S T) → List (TaskEndState S) → Type 0
+abbrev pub AreEndsOf : List ChannelState → List (TaskEndState FrameSend) → Type 0
 AreEndsOf channels ends = map (λ (end : TaskEndState _). end.ring) ends ≡ rings_of channels
 
 -- it says of each of the last four measurements whether all parts came back, in the order of their
@@ -54,19 +54,18 @@ pub record IsClosedWith (d : Profile) (account : AccountState) (whole : Bool) (c
   pub whole_is : (whole ≡ true) ↔ AllBack d log
   pub complete_is : IsComplete d log complete
 
-module _ {S T F : Type 0} (take : TakeGhosts T F) where
-  -- the lists stopped, as where the master is lost, if one was connected; what waited was thrown
-  -- away; and parts came back, two at most of an event channel. The account is that of this and all
-  -- that was before: of all that the tasks gave back
-  pub record Closes (a : SlaveState S T) (ends : List (TaskEndState S)) (account : AccountState)
-      (whole : Bool) (complete : Complete)
-      : Type 0 where
-    pub last : List Act
-    pub are : list_all is_return last ≡ true
-    pub few : length last ≤ 2 * MAX_CHANNELS
-    pub closed :
-        (log : List Act) → SlaveStandsAfter take a.session.profile a log
-        → IsClosedWith a.session.profile account whole complete
-        (last ++ (discarding (has_waiting a.outbox) ++ (losing a.session.connected ++ log)))
-        × AreOfTasks ends
-        (last ++ (discarding (has_waiting a.outbox) ++ (losing a.session.connected ++ log)))
+-- the lists stopped, as where the master is lost, if one was connected; what waited was thrown
+-- away; and parts came back, two at most of an event channel. The account is that of this and all
+-- that was before: of all that the tasks gave back
+pub record Closes (a : SlaveState) (ends : List (TaskEndState FrameSend)) (account : AccountState)
+    (whole : Bool) (complete : Complete)
+    : Type 0 where
+  pub last : List Act
+  pub are : list_all is_return last ≡ true
+  pub few : length last ≤ 2 * MAX_CHANNELS
+  pub closed :
+      (log : List Act) → SlaveStandsAfter a.session.profile a log
+      → IsClosedWith a.session.profile account whole complete
+      (last ++ (discarding (has_waiting a.outbox) ++ (losing a.session.connected ++ log)))
+      × AreOfTasks ends
+      (last ++ (discarding (has_waiting a.outbox) ++ (losing a.session.connected ++ log)))

@@ -6,7 +6,6 @@ use Rattle.xcp_base.specs.declared.err_code.ErrCode.{ErrCode}
 use Rattle.xcp_base.specs.declared.err_code.ErrCode.TheVariants.{CmdBusy, MemoryOverflow, Sequence}
 use Rattle.xcp_base.specs.Lists.{has_list}
 use Rattle.xcp_base.specs.declared.limits.TheConstants.{MAX_CHANNELS, MAX_LISTS}
-use Rattle.channel_ring.specs.declared.ends.TakeEnd.{Ghosts as TakeGhosts}
 use Rattle.session.specs.Exchanges.{Exchange}
 use Rattle.session.specs.Past.{Given, Past}
 use Rattle.session.specs.Starts.{is_on, starts}
@@ -53,84 +52,82 @@ IsHearing packet given act =
     ((x : Exchange) × (act ≡ Heard x) × (x.packet ≡ packet) × (x.given ≡ given))
     ⊎ ((code : ErrCode) × (act ≡ Refused packet code) × IsStartRefusal code)
 
-module _ {S T : Type 0} where
-  -- at an event channel of lists that the packet starts, their starts find no places at the task,
-  -- with the stops of all lists that then run and an order to end
-  pub record FindsNoPlaces (d : Profile) (past : Past) (packet : List ℕ) (s : SlaveState S T)
-      : Type 0 where
-    pub channel : ℕ
-    pub set : ℕ
-    pub state : ChannelState S T
-    pub are :
-        (l : ℕ) → l < MAX_LISTS
-        → has_list set l ≡ (starts d past packet l && is_on d past channel l)
-    pub some : set ≢ 0
-    pub state_is : slice_get s.channels channel ≡ Some state
-    pub cannot : ¬ CanStart state.link.newer (has_list set)
+-- at an event channel of lists that the packet starts, their starts find no places at the task,
+-- with the stops of all lists that then run and an order to end
+pub record FindsNoPlaces (d : Profile) (past : Past) (packet : List ℕ) (s : SlaveState)
+    : Type 0 where
+  pub channel : ℕ
+  pub set : ℕ
+  pub state : ChannelState
+  pub are :
+      (l : ℕ) → l < MAX_LISTS
+      → has_list set l ≡ (starts d past packet l && is_on d past channel l)
+  pub some : set ≢ 0
+  pub state_is : slice_get s.channels channel ≡ Some state
+  pub cannot : ¬ CanStart state.link.newer (has_list set)
 
-  -- at an event channel of which a list is ready the parts of two measurements are kept
-  pub record HasNoRoom (d : Profile) (past : Past) (s : SlaveState S T) : Type 0 where
-    pub channel : ℕ
-    pub list : ℕ
-    pub state : ChannelState S T
-    pub below : list < MAX_LISTS
-    pub ready : is_on d past channel list ≡ true
-    pub state_is : slice_get s.channels channel ≡ Some state
-    pub two : keeps_two state ≡ true
+-- at an event channel of which a list is ready the parts of two measurements are kept
+pub record HasNoRoom (d : Profile) (past : Past) (s : SlaveState) : Type 0 where
+  pub channel : ℕ
+  pub list : ℕ
+  pub state : ChannelState
+  pub below : list < MAX_LISTS
+  pub ready : is_on d past channel list ≡ true
+  pub state_is : slice_get s.channels channel ≡ Some state
+  pub two : keeps_two state ≡ true
 
-  -- a start was refused where no list runs. No measurement was opened: then with ERR_CMD_BUSY
-  -- exactly if there is no room for one more. Or one was, with this number, and ended at once: then
-  -- there was room, since of two parts that are kept one is its own; but memory ran out, or a task
-  -- was at its place just then
-  pub record IsIdleRefusal (d : Profile) (past : Past) (number : ℕ) (s : SlaveState S T)
-      (code : ErrCode) (opening : List Act)
-      : Type 0 where
-    pub unopened : opened opening ≡ 0 → (code ≡ CmdBusy) ↔ HasNoRoom d past s
-    pub ended :
-        opened opening ≢ 0 → (two : HasNoRoom d past s) → number_of two.state.newer ≡ Some number
+-- a start was refused where no list runs. No measurement was opened: then with ERR_CMD_BUSY
+-- exactly if there is no room for one more. Or one was, with this number, and ended at once: then
+-- there was room, since of two parts that are kept one is its own; but memory ran out, or a task
+-- was at its place just then
+pub record IsIdleRefusal (d : Profile) (past : Past) (number : ℕ) (s : SlaveState)
+    (code : ErrCode) (opening : List Act)
+    : Type 0 where
+  pub unopened : opened opening ≡ 0 → (code ≡ CmdBusy) ↔ HasNoRoom d past s
+  pub ended :
+      opened opening ≢ 0 → (two : HasNoRoom d past s) → number_of two.state.newer ≡ Some number
 
 -- each event channel of the one is on its line with its task in the other
-abbrev pub KeepsLines : {S T : Type 0} → SlaveState S T → SlaveState S T → Type 0
+abbrev pub KeepsLines : SlaveState → SlaveState → Type 0
 KeepsLines a b = rings_of b.channels ≡ rings_of a.channels
 
 -- it counted so much that it hears and takes nothing any more
-abbrev pub is_spent : {S T : Type 0} → SlaveState S T → Bool
+abbrev pub is_spent : SlaveState → Bool
 is_spent s = nat_le MOST_ACTS s.acts
 
 -- it hears a packet: it isn't spent, and a reply finds room
-abbrev pub may_hear : {S T : Type 0} → SlaveState S T → Bool
+abbrev pub may_hear : SlaveState → Bool
 may_hear s = not (is_spent s) && has_room s.outbox
 
-module _ {S T F : Type 0} (take : TakeGhosts T F) where
-  -- whatever the one stands after, the other stands after that and these acts; and each event
-  -- channel is on its line with its task still
-  abbrev pub GoesBy : SlaveState S T → SlaveState S T → List Act → Type 0
-  GoesBy a b acts =
-      KeepsLines a b
-      × ((log : List Act) → SlaveStandsAfter take a.session.profile a log
-      → SlaveStandsAfter take a.session.profile b (acts ++ log))
+-- whatever the one stands after, the other stands after that and these acts; and each event
+-- channel is on its line with its task still
+abbrev pub GoesBy : SlaveState → SlaveState → List Act → Type 0
+GoesBy a b acts =
+    KeepsLines a b
+    × ((log : List Act) → SlaveStandsAfter a.session.profile a log
+    → SlaveStandsAfter a.session.profile b (acts ++ log))
 
-  -- a packet was heard; before that a measurement may have been opened, if it is a start; and while
-  -- lists run, a start that isn't refused with ERR_SEQUENCE is refused with ERR_CMD_BUSY, where its
-  -- orders find no places, or else not at all. While no list runs, ERR_CMD_BUSY comes before
-  -- ERR_MEMORY_OVERFLOW: the state behind the packet shows whether there was room
-  pub record Hears (a b : SlaveState S T) (packet : List ℕ) (given : Given) : Type 0 where
-    pub act : Act
-    pub opening : List Act
-    pub is : IsHearing packet given act
-    pub may_open : MayOpen most_before opening
-    pub for_a_start :
-        (log : List Act) → SlaveStandsAfter take a.session.profile a log
-        → (opening ≡ []) ⊎ IsStart a.session.profile (past_of a.session.profile log) packet
-    pub places :
-        (log : List Act) → SlaveStandsAfter take a.session.profile a log
-        → ¬ NoneRuns (past_of a.session.profile log)
-        → (code : ErrCode) → act ≡ Refused packet code → code ≢ Sequence
-        → (code ≡ CmdBusy)
-        × FindsNoPlaces a.session.profile (past_of a.session.profile log) packet b
-    pub when_idle :
-        (log : List Act) → SlaveStandsAfter take a.session.profile a log
-        → NoneRuns (past_of a.session.profile log)
-        → (code : ErrCode) → act ≡ Refused packet code
-        → IsIdleRefusal a.session.profile (past_of a.session.profile log) a.number b code opening
-    pub goes : GoesBy a b (act ∷ opening)
+-- a packet was heard; before that a measurement may have been opened, if it is a start; and while
+-- lists run, a start that isn't refused with ERR_SEQUENCE is refused with ERR_CMD_BUSY, where its
+-- orders find no places, or else not at all. While no list runs, ERR_CMD_BUSY comes before
+-- ERR_MEMORY_OVERFLOW: the state behind the packet shows whether there was room
+pub record Hears (a b : SlaveState) (packet : List ℕ) (given : Given) : Type 0 where
+  pub act : Act
+  pub opening : List Act
+  pub is : IsHearing packet given act
+  pub may_open : MayOpen most_before opening
+  pub for_a_start :
+      (log : List Act) → SlaveStandsAfter a.session.profile a log
+      → (opening ≡ []) ⊎ IsStart a.session.profile (past_of a.session.profile log) packet
+  pub places :
+      (log : List Act) → SlaveStandsAfter a.session.profile a log
+      → ¬ NoneRuns (past_of a.session.profile log)
+      → (code : ErrCode) → act ≡ Refused packet code → code ≢ Sequence
+      → (code ≡ CmdBusy)
+      × FindsNoPlaces a.session.profile (past_of a.session.profile log) packet b
+  pub when_idle :
+      (log : List Act) → SlaveStandsAfter a.session.profile a log
+      → NoneRuns (past_of a.session.profile log)
+      → (code : ErrCode) → act ≡ Refused packet code
+      → IsIdleRefusal a.session.profile (past_of a.session.profile log) a.number b code opening
+  pub goes : GoesBy a b (act ∷ opening)

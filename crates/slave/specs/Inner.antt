@@ -10,9 +10,7 @@ use Rattle.daq_store.specs.Shape.{is_list}
 use Rattle.xcp_base.specs.Lists.{has_list}
 use Rattle.xcp_base.specs.declared.err_code.ErrCode.{ErrCode}
 use Rattle.xcp_base.specs.declared.limits.TheConstants.{MAX_LISTS, MAX_TAKEN}
-use Rattle.channel_ring.specs.declared.ends.SendEnd.{Ghosts as SendGhosts}
-use Rattle.channel_ring.specs.declared.ends.RingEnd.{Ghosts as EndGhosts}
-use Rattle.channel_ring.specs.declared.ends.TakeEnd.{Ghosts as TakeGhosts}
+use Rattle.frame_ring.specs.declared.frame_send.FrameSend.{FrameSend}
 use Rattle.session.specs.Past.{Given, Past}
 use Rattle.session.specs.Profiles.{lists_of}
 use Rattle.session.specs.Standing.{SessionStandsAfter, SessionState}
@@ -120,7 +118,7 @@ abbrev pub IsPlaceRefusal : ErrCode → Type 0
 IsPlaceRefusal code = (code ≡ CmdBusy) ⊎ (code ≡ MemoryOverflow)
 
 -- a slave, once it counted so much more
-abbrev pub counting : {S T : Type 0} → SlaveState S T → ℕ → SlaveState S T
+abbrev pub counting : SlaveState → ℕ → SlaveState
 counting s n = record s { acts = s.acts + n }
 
 -- what an act counts as
@@ -131,284 +129,271 @@ acts_of (Marked l) = PER_ACT
 acts_of (Skipped l) = PER_ACT
 acts_of (Wrote l len) = PER_ACT
 
-module _ {S T : Type 0} where
-  -- the newest measurement's parts are as they were, and the next look begins there too
-  pub record KeepsNewest (a b : SlaveState S T) : Type 0 where
-    pub newest : (c : ℕ) → newest_at b c ≡ newest_at a c
-    pub next : b.next ≡ a.next
+-- the newest measurement's parts are as they were, and the next look begins there too
+pub record KeepsNewest (a b : SlaveState) : Type 0 where
+  pub newest : (c : ℕ) → newest_at b c ≡ newest_at a c
+  pub next : b.next ≡ a.next
 
-  -- and so are those of the measurement before
-  abbrev pub KeepsOlder : SlaveState S T → SlaveState S T → Type 0
-  KeepsOlder a b = (c : ℕ) → older_at b c ≡ older_at a c
+-- and so are those of the measurement before
+abbrev pub KeepsOlder : SlaveState → SlaveState → Type 0
+KeepsOlder a b = (c : ℕ) → older_at b c ≡ older_at a c
 
-  -- a round ended at event channel `end`
-  abbrev pub EndsAt : SlaveState S T → ℕ → Round → Type 0
-  EndsAt b end HeldUp = b.next ≡ end
-  EndsAt b end Empty = length b.channels ≤ end
-  EndsAt b end Took = length b.channels ≤ end
+-- a round ended at event channel `end`
+abbrev pub EndsAt : SlaveState → ℕ → Round → Type 0
+EndsAt b end HeldUp = b.next ≡ end
+EndsAt b end Empty = length b.channels ≤ end
+EndsAt b end Took = length b.channels ≤ end
 
-  -- the orders of the tasks were looked at
-  pub record LooksAtAll (a b : SlaveState S T) : Type 0 where
-    pub channels : IsEach (λ c. Looks) a.channels b.channels
-    pub rest : b ≡ record a { channels = b.channels }
+-- the orders of the tasks were looked at
+pub record LooksAtAll (a b : SlaveState) : Type 0 where
+  pub channels : IsEach (λ c. Looks) a.channels b.channels
+  pub rest : b ≡ record a { channels = b.channels }
 
-  -- at an event channel starts of the lists find no places
-  pub record WantsPlaces (s : SessionState) (lists : ℕ) (now : List (ChannelState S T))
-      : Type 0 where
-    pub sets : List ℕ
-    pub are : AreSets s lists sets
-    pub none : HasNoPlaces sets now
+-- at an event channel starts of the lists find no places
+pub record WantsPlaces (s : SessionState) (lists : ℕ) (now : List ChannelState) : Type 0 where
+  pub sets : List ℕ
+  pub are : AreSets s lists sets
+  pub none : HasNoPlaces sets now
 
-  -- at each event channel of which a list is ready there is room for one more part
-  pub record HasRoom (s : SlaveState S T) : Type 0 where
-    pub sets : List ℕ
-    pub all : ℕ
-    pub are_all : (l : ℕ) → l < MAX_LISTS → has_list all l ≡ true
-    pub are : AreSets s.session all sets
-    pub as_many : length sets ≡ length s.channels
-    pub have : HaveRoom sets s.channels
+-- at each event channel of which a list is ready there is room for one more part
+pub record HasRoom (s : SlaveState) : Type 0 where
+  pub sets : List ℕ
+  pub all : ℕ
+  pub are_all : (l : ℕ) → l < MAX_LISTS → has_list all l ≡ true
+  pub are : AreSets s.session all sets
+  pub as_many : length sets ≡ length s.channels
+  pub have : HaveRoom sets s.channels
 
-  -- at one there is none
-  pub record WantsRoom (s : SlaveState S T) : Type 0 where
-    pub sets : List ℕ
-    pub all : ℕ
-    pub are : AreSets s.session all sets
-    pub none : HasFull sets s.channels
+-- at one there is none
+pub record WantsRoom (s : SlaveState) : Type 0 where
+  pub sets : List ℕ
+  pub all : ℕ
+  pub are : AreSets s.session all sets
+  pub none : HasFull sets s.channels
 
-  -- the last measurement with a part at event channel c isn't the newest
-  pub record IsOfBefore (s : SlaveState S T) (c : ℕ) : Type 0 where
-    pub number : ℕ
-    pub kept :
-        (ch : ChannelState S T) → slice_get s.channels c ≡ Some ch
-        → number_of ch.newer ≡ Some number
-    pub other : (number + 1) % 18446744073709551616 ≢ s.number
+-- the last measurement with a part at event channel c isn't the newest
+pub record IsOfBefore (s : SlaveState) (c : ℕ) : Type 0 where
+  pub number : ℕ
+  pub kept :
+      (ch : ChannelState) → slice_get s.channels c ≡ Some ch → number_of ch.newer ≡ Some number
+  pub other : (number + 1) % 18446744073709551616 ≢ s.number
 
-  -- it has ended: no list runs, or it isn't the newest
-  abbrev pub IsOver : SlaveState S T → ℕ → Type 0
-  IsOver s c = Idle s.session ⊎ IsOfBefore s c
+-- it has ended: no list runs, or it isn't the newest
+abbrev pub IsOver : SlaveState → ℕ → Type 0
+IsOver s c = Idle s.session ⊎ IsOfBefore s c
 
-  -- at each event channel of which a list is ready a sampler was just handed out
-  abbrev pub AreJustOut : SlaveState S T → Type 0
-  AreJustOut s =
-      (c l : ℕ) (ch : ChannelState S T)
-      → l < MAX_LISTS → shows_on s.session.store c l ≡ true → slice_get s.channels c ≡ Some ch
-      → (sampler : SamplerState S) × (went : TakeState)
-      × (ch.link.newer ≡ Some (just_out sampler went))
+-- at each event channel of which a list is ready a sampler was just handed out
+abbrev pub AreJustOut : SlaveState → Type 0
+AreJustOut s =
+    (c l : ℕ) (ch : ChannelState)
+    → l < MAX_LISTS → shows_on s.session.store c l ≡ true → slice_get s.channels c ≡ Some ch
+    → (sampler : SamplerState FrameSend) × (went : TakeState)
+    × (ch.link.newer ≡ Some (just_out sampler went))
 
-  -- so starts are refused
-  abbrev pub IsBusy : SlaveState S T → SlaveState S T → ℕ → ErrCode → Type 0
-  IsBusy a b lists code = (code ≡ CmdBusy) × WantsPlaces a.session lists b.channels
+-- so starts are refused
+abbrev pub IsBusy : SlaveState → SlaveState → ℕ → ErrCode → Type 0
+IsBusy a b lists code = (code ≡ CmdBusy) × WantsPlaces a.session lists b.channels
 
-  -- beside the event channels, one measurement more was opened
-  pub record OpensBeside (a b : SlaveState S T) : Type 0 where
-    pub session : b.session ≡ a.session
-    pub outbox : b.outbox ≡ a.outbox
-    pub plan : b.plan ≡ plan_of a.session.store
-    pub lists : a.session.store.profile ≡ lists_of a.session.profile
-    pub account : b.account ≡ a.account
-    pub number : b.number ≡ (a.number + 1) % 18446744073709551616
-    pub counted : b.acts ≡ a.acts
-    pub next : b.next ≡ a.next
+-- beside the event channels, one measurement more was opened
+pub record OpensBeside (a b : SlaveState) : Type 0 where
+  pub session : b.session ≡ a.session
+  pub outbox : b.outbox ≡ a.outbox
+  pub plan : b.plan ≡ plan_of a.session.store
+  pub lists : a.session.store.profile ≡ lists_of a.session.profile
+  pub account : b.account ≡ a.account
+  pub number : b.number ≡ (a.number + 1) % 18446744073709551616
+  pub counted : b.acts ≡ a.acts
+  pub next : b.next ≡ a.next
 
-module _ {S T F : Type 0} (take : TakeGhosts T F) where
-  -- whatever the parts of the one stand after, short of 2^57 acts, those of the other stand after
-  -- that and these acts; and each event channel is on its line with its task still
-  abbrev pub PartsGoBy : SlaveState S T → SlaveState S T → List Act → Type 0
-  PartsGoBy a b acts =
-      KeepsLines a b
-      × ((log : List Act) → 32 * (length acts + length log) ≤ MAX_TAKEN
-      → PartsStandAfter take a.session.profile a log
-      → PartsStandAfter take a.session.profile b (acts ++ log))
+-- whatever the parts of the one stand after, short of 2^57 acts, those of the other stand after
+-- that and these acts; and each event channel is on its line with its task still
+abbrev pub PartsGoBy : SlaveState → SlaveState → List Act → Type 0
+PartsGoBy a b acts =
+    KeepsLines a b
+    × ((log : List Act) → 32 * (length acts + length log) ≤ MAX_TAKEN
+    → PartsStandAfter a.session.profile a log
+    → PartsStandAfter a.session.profile b (acts ++ log))
 
-  -- the lists were started
-  abbrev pub SlaveStarted : Profile → SlaveState S T → List Act → ℕ → Type 0
-  SlaveStarted d s log lists = StandsBy take (started d log lists) (late_in d log) d s log
+-- the lists were started
+abbrev pub SlaveStarted : Profile → SlaveState → List Act → ℕ → Type 0
+SlaveStarted d s log lists = StandsBy (started d log lists) (late_in d log) d s log
 
-  -- the lists that ran before and don't now were stopped where they run; and where none runs now,
-  -- each measurement ended
-  pub record Settles (a b : List (ChannelState S T)) (before now : ℕ) : Type 0 where
-    pub lists : ℕ
-    pub are :
-        (l : ℕ) → l < MAX_LISTS → has_list lists l ≡ (has_list before l && not (has_list now l))
-    pub ends : Bool
-    pub yes : ends ≡ true → (l : ℕ) → l < MAX_LISTS → has_list now l ≡ false
-    pub always : ((l : ℕ) → l < MAX_LISTS → has_list now l ≡ false) → ends ≡ true
-    pub stopped : List (ChannelState S T)
-    pub stops : IsEach (λ c. StopsAll take lists) a stopped
-    pub goes_on : ends ≡ false → b ≡ stopped
-    pub ends_all : ends ≡ true → IsEach (λ c. Ends) stopped b
+-- the lists that ran before and don't now were stopped where they run; and where none runs now,
+-- each measurement ended
+pub record Settles (a b : List ChannelState) (before now : ℕ) : Type 0 where
+  pub lists : ℕ
+  pub are : (l : ℕ) → l < MAX_LISTS → has_list lists l ≡ (has_list before l && not (has_list now l))
+  pub ends : Bool
+  pub yes : ends ≡ true → (l : ℕ) → l < MAX_LISTS → has_list now l ≡ false
+  pub always : ((l : ℕ) → l < MAX_LISTS → has_list now l ≡ false) → ends ≡ true
+  pub stopped : List ChannelState
+  pub stops : IsEach (λ c. StopsAll lists) a stopped
+  pub goes_on : ends ≡ false → b ≡ stopped
+  pub ends_all : ends ≡ true → IsEach (λ c. Ends) stopped b
 
-  -- starts of the lists were ordered
-  pub record StartsLists (a b : SlaveState S T) (lists : ℕ) : Type 0 where
-    pub looked : SlaveState S T
-    pub looks : LooksAtAll a looked
-    pub sets : List ℕ
-    pub are : AreSets a.session lists sets
-    pub as_many : length sets ≡ length looked.channels
-    pub can : CanStartAll sets looked.channels
-    pub starts : IsEach (StartsAt take sets) looked.channels b.channels
-    pub rest : b ≡ record looked { channels = b.channels }
+-- starts of the lists were ordered
+pub record StartsLists (a b : SlaveState) (lists : ℕ) : Type 0 where
+  pub looked : SlaveState
+  pub looks : LooksAtAll a looked
+  pub sets : List ℕ
+  pub are : AreSets a.session lists sets
+  pub as_many : length sets ≡ length looked.channels
+  pub can : CanStartAll sets looked.channels
+  pub starts : IsEach (StartsAt sets) looked.channels b.channels
+  pub rest : b ≡ record looked { channels = b.channels }
 
-  -- what came back was taken back, at all event channels, and no more than so many parts
-  pub record Collects (most : ℕ) (a b : SlaveState S T) : Type 0 where
-    pub session : b.session ≡ a.session
-    pub outbox : b.outbox ≡ a.outbox
-    pub as_many : length b.channels ≡ length a.channels
-    pub number : b.number ≡ a.number
-    pub counted : b.acts ≡ a.acts
-    pub next : b.next ≡ a.next
-    pub acts : List Act
-    pub are : list_all is_return acts ≡ true
-    pub few : length acts ≤ most
-    pub goes : PartsGoBy a b acts
+-- what came back was taken back, at all event channels, and no more than so many parts
+pub record Collects (most : ℕ) (a b : SlaveState) : Type 0 where
+  pub session : b.session ≡ a.session
+  pub outbox : b.outbox ≡ a.outbox
+  pub as_many : length b.channels ≡ length a.channels
+  pub number : b.number ≡ a.number
+  pub counted : b.acts ≡ a.acts
+  pub next : b.next ≡ a.next
+  pub acts : List Act
+  pub are : list_all is_return acts ≡ true
+  pub few : length acts ≤ most
+  pub goes : PartsGoBy a b acts
 
-  -- lists were started, in a measurement that may have been opened
-  pub record Prepares (most : ℕ) (a b : SlaveState S T) (lists : ℕ) : Type 0 where
-    pub opening : List Act
-    pub may_open : MayOpen most opening
-    pub for_some : (opening ≡ []) ⊎ HasSome lists
-    pub lines : KeepsLines a b
-    pub in_one :
-        (log : List Act) → 32 * (1 + length opening + length log) ≤ MAX_TAKEN
-        → PartsStandAfter take a.session.profile a log
-        → IsOfOne a.session.profile (opening ++ log) lists
-    pub as_opened :
-        (log : List Act) → 32 * (1 + length opening + length log) ≤ MAX_TAKEN
-        → PartsStandAfter take a.session.profile a log
-        → AreAsOpened a.session.profile (opening ++ log) lists
-    pub has_parts :
-        (log : List Act) → 32 * (1 + length opening + length log) ≤ MAX_TAKEN
-        → PartsStandAfter take a.session.profile a log
-        → HasParts a.session.profile (opening ++ log) lists
-    pub goes :
-        (log : List Act) → 32 * (1 + length opening + length log) ≤ MAX_TAKEN
-        → PartsStandAfter take a.session.profile a log
-        → SlaveStarted a.session.profile b (opening ++ log) lists
+-- lists were started, in a measurement that may have been opened
+pub record Prepares (most : ℕ) (a b : SlaveState) (lists : ℕ) : Type 0 where
+  pub opening : List Act
+  pub may_open : MayOpen most opening
+  pub for_some : (opening ≡ []) ⊎ HasSome lists
+  pub lines : KeepsLines a b
+  pub in_one :
+      (log : List Act) → 32 * (1 + length opening + length log) ≤ MAX_TAKEN
+      → PartsStandAfter a.session.profile a log
+      → IsOfOne a.session.profile (opening ++ log) lists
+  pub as_opened :
+      (log : List Act) → 32 * (1 + length opening + length log) ≤ MAX_TAKEN
+      → PartsStandAfter a.session.profile a log
+      → AreAsOpened a.session.profile (opening ++ log) lists
+  pub has_parts :
+      (log : List Act) → 32 * (1 + length opening + length log) ≤ MAX_TAKEN
+      → PartsStandAfter a.session.profile a log
+      → HasParts a.session.profile (opening ++ log) lists
+  pub goes :
+      (log : List Act) → 32 * (1 + length opening + length log) ≤ MAX_TAKEN
+      → PartsStandAfter a.session.profile a log
+      → SlaveStarted a.session.profile b (opening ++ log) lists
 
-  -- lists were not started; a measurement may have been opened, and ended at once
-  pub record StartsInVain (most : ℕ) (a b : SlaveState S T) (lists : ℕ) (code : ErrCode)
-      : Type 0 where
-    pub is : IsStartRefusal code
-    pub some : HasSome lists
-    pub opening : List Act
-    pub may_open : MayOpen most opening
-    pub sequence :
-        (log : List Act) → 32 * (1 + length opening + length log) ≤ MAX_TAKEN
-        → PartsStandAfter take a.session.profile a log
-        → (code ≡ Sequence) ↔ HasOther a.session.profile (opening ++ log) lists
-    pub places :
-        (past : Past) → SessionStandsAfter a.session past → ¬ NoneRuns past → code ≢ Sequence
-        → IsBusy a b lists code
-    pub when_idle :
-        (past : Past) → SessionStandsAfter a.session past → NoneRuns past
-        → IsIdleRefusal a.session.profile past a.number b code opening
-    pub goes : PartsGoBy a b opening
+-- lists were not started; a measurement may have been opened, and ended at once
+pub record StartsInVain (most : ℕ) (a b : SlaveState) (lists : ℕ) (code : ErrCode) : Type 0 where
+  pub is : IsStartRefusal code
+  pub some : HasSome lists
+  pub opening : List Act
+  pub may_open : MayOpen most opening
+  pub sequence :
+      (log : List Act) → 32 * (1 + length opening + length log) ≤ MAX_TAKEN
+      → PartsStandAfter a.session.profile a log
+      → (code ≡ Sequence) ↔ HasOther a.session.profile (opening ++ log) lists
+  pub places :
+      (past : Past) → SessionStandsAfter a.session past → ¬ NoneRuns past → code ≢ Sequence
+      → IsBusy a b lists code
+  pub when_idle :
+      (past : Past) → SessionStandsAfter a.session past → NoneRuns past
+      → IsIdleRefusal a.session.profile past a.number b code opening
+  pub goes : PartsGoBy a b opening
 
-  -- a packet was answered whose lists were started
-  pub record Answers (a b : SlaveState S T) (packet : List ℕ) (given : Given) : Type 0 where
-    pub exchange : Exchange
-    pub packet_is : exchange.packet ≡ packet
-    pub given_is : exchange.given ≡ given
-    pub lines : KeepsLines a b
-    pub goes :
-        (log : List Act) (lists : ℕ) → 32 * (1 + length log) ≤ MAX_TAKEN
-        → ((l : ℕ) → l < MAX_LISTS
-        → has_list lists l ≡ starts a.session.profile (past_of a.session.profile log) packet l)
-        → StartsWell a.session.profile log packet
-        → SlaveStarted a.session.profile a log lists
-        → PartsStandAfter take a.session.profile b (Heard exchange ∷ log)
+-- a packet was answered whose lists were started
+pub record Answers (a b : SlaveState) (packet : List ℕ) (given : Given) : Type 0 where
+  pub exchange : Exchange
+  pub packet_is : exchange.packet ≡ packet
+  pub given_is : exchange.given ≡ given
+  pub lines : KeepsLines a b
+  pub goes :
+      (log : List Act) (lists : ℕ) → 32 * (1 + length log) ≤ MAX_TAKEN
+      → ((l : ℕ) → l < MAX_LISTS
+      → has_list lists l ≡ starts a.session.profile (past_of a.session.profile log) packet l)
+      → StartsWell a.session.profile log packet
+      → SlaveStarted a.session.profile a log lists
+      → PartsStandAfter a.session.profile b (Heard exchange ∷ log)
 
-module _ {E T F : Type 0} (ring : EndGhosts E) (take : TakeGhosts T F) where
-  -- a part that came back was added to an account, if there is one
-  abbrev pub Notes : AccountState → AccountState → Option (FinishedState E T) → Type 0
-  Notes a b None = b ≡ a
-  Notes a b (Some f) =
-      (entry : Entry) → entry.number ≡ f.number → entry.number + 1 < 2 ^ 64
-      → IsPastOf ring take f entry.past → IntakeStandsAfter take f.intake entry.deeds
-      → (entries : List Entry) (unsent : ℕ → ℕ → ℕ) → AccountStandsAfter a entries unsent
-      → AccountStandsAfter b (entry ∷ entries) unsent
+-- a part that came back was added to an account, if there is one
+abbrev pub Notes : AccountState → AccountState → Option FinishedState → Type 0
+Notes a b None = b ≡ a
+Notes a b (Some f) =
+    (entry : Entry) → entry.number ≡ f.number → entry.number + 1 < 2 ^ 64
+    → IsPastOf f entry.past → IntakeStandsAfter f.intake entry.deeds
+    → (entries : List Entry) (unsent : ℕ → ℕ → ℕ) → AccountStandsAfter a entries unsent
+    → AccountStandsAfter b (entry ∷ entries) unsent
 
-module _ {S E T F : Type 0} (send : SendGhosts S E) (ring : EndGhosts E) (take : TakeGhosts T F)
-  where
-    -- a measurement was opened at all event channels of which a list is ready
-    pub record OpensAll (a b : SlaveState S T) : Type 0 where
-      pub caps : List ℕ
-      pub caps_are : caps ≡ capacities_of a.session.profile
-      pub sets : List ℕ
-      pub all : ℕ
-      pub are_all : (l : ℕ) → l < MAX_LISTS → has_list all l ≡ true
-      pub are : AreSets a.session all sets
-      pub as_many_caps : length caps ≡ length a.channels
-      pub as_many_sets : length sets ≡ length a.channels
-      pub channels :
-          IsEach (OpensAt send ring take a.session.store a.number caps sets) a.channels b.channels
-      pub rest : OpensBeside a b
+-- a measurement was opened at all event channels of which a list is ready
+pub record OpensAll (a b : SlaveState) : Type 0 where
+  pub caps : List ℕ
+  pub caps_are : caps ≡ capacities_of a.session.profile
+  pub sets : List ℕ
+  pub all : ℕ
+  pub are_all : (l : ℕ) → l < MAX_LISTS → has_list all l ≡ true
+  pub are : AreSets a.session all sets
+  pub as_many_caps : length caps ≡ length a.channels
+  pub as_many_sets : length sets ≡ length a.channels
+  pub channels : IsEach (OpensAt a.session.store a.number caps sets) a.channels b.channels
+  pub rest : OpensBeside a b
 
-    -- the same, where it ended at once
-    pub record OpensInVain (a b : SlaveState S T) : Type 0 where
-      pub caps : List ℕ
-      pub caps_are : caps ≡ capacities_of a.session.profile
-      pub sets : List ℕ
-      pub as_many_caps : length caps ≡ length a.channels
-      pub as_many_sets : length sets ≡ length a.channels
-      pub channels :
-          IsEach (OpenedAndEnded send ring take a.session.store a.number caps sets)
-          a.channels b.channels
-      pub rest : OpensBeside a b
+-- the same, where it ended at once
+pub record OpensInVain (a b : SlaveState) : Type 0 where
+  pub caps : List ℕ
+  pub caps_are : caps ≡ capacities_of a.session.profile
+  pub sets : List ℕ
+  pub as_many_caps : length caps ≡ length a.channels
+  pub as_many_sets : length sets ≡ length a.channels
+  pub channels :
+      IsEach (OpenedAndEnded a.session.store a.number caps sets)
+      a.channels b.channels
+  pub rest : OpensBeside a b
 
-    -- a measurement was not opened, for want of memory, or in vain
-    abbrev pub OpensNone : SlaveState S T → SlaveState S T → ErrCode → Type 0
-    OpensNone a b code =
-        ((code ≡ MemoryOverflow) × (b ≡ a)) ⊎ (IsPlaceRefusal code × OpensInVain a b)
+-- a measurement was not opened, for want of memory, or in vain
+abbrev pub OpensNone : SlaveState → SlaveState → ErrCode → Type 0
+OpensNone a b code = ((code ≡ MemoryOverflow) × (b ≡ a)) ⊎ (IsPlaceRefusal code × OpensInVain a b)
 
-module _ {S T F : Type 0} (take : TakeGhosts T F) where
-  -- one look at the newest ring of event channel c: nothing is known there then, or the slave is
-  -- spent; or it is held up; or an item was taken. The other event channels are as they were
-  pub record LooksOnce (a b : SlaveState S T) (c : ℕ) (step : Step) : Type 0 where
-    pub nothing : step ≡ Nothing → (is_spent b ≡ true) ⊎ IsEmptyAt take b c
-    pub full : step ≡ Full → IsHeldUp take b c
-    pub others : (k : ℕ) → k ≢ c → slice_get b.channels k ≡ slice_get a.channels k
-    pub counted : b.acts ≡ a.acts + acts_of step
-    pub spent : is_spent a ≡ true → b ≡ a
-    pub turn : is_spent a ≡ false → step ≢ Full → LooksAt take 1 a b c
-    pub held : step ≡ Full → LooksAt take 0 a b c
+-- one look at the newest ring of event channel c: nothing is known there then, or the slave is
+-- spent; or it is held up; or an item was taken. The other event channels are as they were
+pub record LooksOnce (a b : SlaveState) (c : ℕ) (step : Step) : Type 0 where
+  pub nothing : step ≡ Nothing → (is_spent b ≡ true) ⊎ IsEmptyAt b c
+  pub full : step ≡ Full → IsHeldUp b c
+  pub others : (k : ℕ) → k ≢ c → slice_get b.channels k ≡ slice_get a.channels k
+  pub counted : b.acts ≡ a.acts + acts_of step
+  pub spent : is_spent a ≡ true → b ≡ a
+  pub turn : is_spent a ≡ false → step ≢ Full → LooksAt 1 a b c
+  pub held : step ≡ Full → LooksAt 0 a b c
 
-  -- one look at the ring that event channel c has in the measurement before the newest, unless the
-  -- slave is spent; the other event channels' rings are as they were
-  pub record LooksOlder (a b : SlaveState S T) (c : ℕ) (step : Step) : Type 0 where
-    pub nothing : step ≡ Nothing → (is_spent b ≡ true) ⊎ (known_of take (older_at b c) ≡ [])
-    pub full : step ≡ Full → HasRunning take (older_at b c)
-    pub turn :
-        step ≢ Full → (is_spent b ≡ true) ⊎ LooksTimes take 1 (older_at a c) (older_at b c)
-    pub others : (k : ℕ) → k ≢ c → older_at b k ≡ older_at a k
+-- one look at the ring that event channel c has in the measurement before the newest, unless the
+-- slave is spent; the other event channels' rings are as they were
+pub record LooksOlder (a b : SlaveState) (c : ℕ) (step : Step) : Type 0 where
+  pub nothing : step ≡ Nothing → (is_spent b ≡ true) ⊎ (known_of (older_at b c) ≡ [])
+  pub full : step ≡ Full → HasRunning (older_at b c)
+  pub turn : step ≢ Full → (is_spent b ≡ true) ⊎ LooksTimes 1 (older_at a c) (older_at b c)
+  pub others : (k : ℕ) → k ≢ c → older_at b k ≡ older_at a k
 
-  -- what that ring holds is let go, there alone
-  pub record LetsGoThere (a b : SlaveState S T) (c : ℕ) : Type 0 where
-    pub there : (is_spent b ≡ true) ⊎ LetsGoAt take a b c
-    pub others : (k : ℕ) → k ≢ c → older_at b k ≡ older_at a k
+-- what that ring holds is let go, there alone
+pub record LetsGoThere (a b : SlaveState) (c : ℕ) : Type 0 where
+  pub there : (is_spent b ≡ true) ⊎ LetsGoAt a b c
+  pub others : (k : ℕ) → k ≢ c → older_at b k ≡ older_at a k
 
-  -- the newest rings from event channel `begin` on, below `end`, were looked at once, and of the
-  -- others nothing was taken
-  pub record LooksFrom (begin end : ℕ) (a b : SlaveState S T) : Type 0 where
-    pub before : (c : ℕ) → c < begin → LooksAt take 0 a b c
-    pub there : (c : ℕ) → begin ≤ c → c < end → LooksAt take 1 a b c
-    pub behind : (c : ℕ) → end ≤ c → LooksAt take 0 a b c
+-- the newest rings from event channel `begin` on, below `end`, were looked at once, and of the
+-- others nothing was taken
+pub record LooksFrom (begin end : ℕ) (a b : SlaveState) : Type 0 where
+  pub before : (c : ℕ) → c < begin → LooksAt 0 a b c
+  pub there : (c : ℕ) → begin ≤ c → c < end → LooksAt 1 a b c
+  pub behind : (c : ℕ) → end ≤ c → LooksAt 0 a b c
 
-  -- in a round from `begin` on each ring was looked at once, up to one that is held up; or until
-  -- the slave was spent, and of one that was spent before nothing is taken
-  pub record GoesRound (a b : SlaveState S T) (begin : ℕ) (round : Round) : Type 0 where
-    pub end : ℕ
-    pub reach : begin ≤ end
-    pub looks : LooksFrom begin end a b
-    pub ends : EndsAt b end round ⊎ (is_spent b ≡ true)
-    pub spent : is_spent a ≡ true → (c : ℕ) → LooksAt take 0 a b c
+-- in a round from `begin` on each ring was looked at once, up to one that is held up; or until
+-- the slave was spent, and of one that was spent before nothing is taken
+pub record GoesRound (a b : SlaveState) (begin : ℕ) (round : Round) : Type 0 where
+  pub end : ℕ
+  pub reach : begin ≤ end
+  pub looks : LooksFrom begin end a b
+  pub ends : EndsAt b end round ⊎ (is_spent b ≡ true)
+  pub spent : is_spent a ≡ true → (c : ℕ) → LooksAt 0 a b c
 
-  -- how a round ended that began at event channel `begin`, and where the next one begins
-  abbrev pub EndsRound : SlaveState S T → SlaveState S T → ℕ → Round → Type 0
-  EndsRound a b begin HeldUp = IsHeldUp take b b.next
-  EndsRound a b begin Empty =
-      (b.next ≡ 0) × ((is_spent b ≡ true) ⊎ ((c : ℕ) → begin ≤ c → IsEmptyAt take b c))
-  EndsRound a b begin Took = (b.next ≡ 0) × (a.acts + PER_ACT ≤ b.acts)
+-- how a round ended that began at event channel `begin`, and where the next one begins
+abbrev pub EndsRound : SlaveState → SlaveState → ℕ → Round → Type 0
+EndsRound a b begin HeldUp = IsHeldUp b b.next
+EndsRound a b begin Empty =
+    (b.next ≡ 0) × ((is_spent b ≡ true) ⊎ ((c : ℕ) → begin ≤ c → IsEmptyAt b c))
+EndsRound a b begin Took = (b.next ≡ 0) × (a.acts + PER_ACT ≤ b.acts)
 
 -- of the replies and samples that wait, as a whole or in part, the first n aren't sent: so much was
 -- done with each ring, and so much is late
@@ -419,109 +404,103 @@ abbrev pub left_late : Profile → List Act → ℕ → ℕ → ℕ → ℕ
 left_late d log n m l =
     late_in d log m l + count_by (is_late log m l) (first n (origins_in (waits d log)))
 
-module _ {S T F : Type 0} (take : TakeGhosts T F) where
-  -- the part of measurement m at event channel c was told that a sample of list l isn't sent
-  pub record TellsPart (m c l : ℕ) (a b : SlaveState S T) : Type 0 where
-    pub channels : IsOnlyAt (GoesOnThere take m (Unsent l)) c a.channels b.channels
-    pub rest : b ≡ record a { channels = b.channels }
+-- the part of measurement m at event channel c was told that a sample of list l isn't sent
+pub record TellsPart (m c l : ℕ) (a b : SlaveState) : Type 0 where
+  pub channels : IsOnlyAt (GoesOnThere m (Unsent l)) c a.channels b.channels
+  pub rest : b ≡ record a { channels = b.channels }
 
-  -- that part isn't kept, and the account was told
-  pub record TellsAccount (m c l : ℕ) (a b : SlaveState S T) : Type 0 where
-    pub none : KeepsNoneOf m c a.channels
-    pub account :
-        (entries : List Entry) (unsent : ℕ → ℕ → ℕ) → m < end_of entries
-        → AccountStandsAfter a.account entries unsent
-        → AccountStandsAfter b.account entries (more_unsent m l 1 unsent)
-    pub rest : b ≡ record a { account = b.account }
+-- that part isn't kept, and the account was told
+pub record TellsAccount (m c l : ℕ) (a b : SlaveState) : Type 0 where
+  pub none : KeepsNoneOf m c a.channels
+  pub account :
+      (entries : List Entry) (unsent : ℕ → ℕ → ℕ) → m < end_of entries
+      → AccountStandsAfter a.account entries unsent
+      → AccountStandsAfter b.account entries (more_unsent m l 1 unsent)
+  pub rest : b ≡ record a { account = b.account }
 
-  -- what is from here isn't sent: of a sample its part or the account was told, if there may be
-  -- such a list
-  abbrev pub LeavesOne : Origin → SlaveState S T → SlaveState S T → Type 0
-  LeavesOne origin.Reply a b = b ≡ a
-  LeavesOne (origin.Sample m c l) a b =
-      TellsPart m c l a b ⊎ (TellsAccount m c l a b ⊎ ((MAX_LISTS ≤ l) × (b ≡ a)))
+-- what is from here isn't sent: of a sample its part or the account was told, if there may be
+-- such a list
+abbrev pub LeavesOne : Origin → SlaveState → SlaveState → Type 0
+LeavesOne origin.Reply a b = b ≡ a
+LeavesOne (origin.Sample m c l) a b =
+    TellsPart m c l a b ⊎ (TellsAccount m c l a b ⊎ ((MAX_LISTS ≤ l) × (b ≡ a)))
 
-  -- the first n of what waits were left
-  pub record LeavesFirst (n : ℕ) (a b : SlaveState S T) : Type 0 where
-    pub lines : KeepsLines a b
-    pub outbox : b.outbox ≡ a.outbox
-    pub session : b.session ≡ a.session
-    pub counted : b.acts ≡ a.acts
-    pub next : b.next ≡ a.next
-    pub leaves :
-        (log : List Act) → 32 * (1 + length log) ≤ MAX_TAKEN
-        → PartsStandAfter take a.session.profile a log
-        → StandsBy take (left_deeds a.session.profile log n) (left_late a.session.profile log n)
-        a.session.profile b log
-    pub ended :
-        (log : List Act) → 32 * (1 + length log) ≤ MAX_TAKEN
-        → PartsStandAfter take a.session.profile a log
-        → HasEnded b (past_of a.session.profile log)
+-- the first n of what waits were left
+pub record LeavesFirst (n : ℕ) (a b : SlaveState) : Type 0 where
+  pub lines : KeepsLines a b
+  pub outbox : b.outbox ≡ a.outbox
+  pub session : b.session ≡ a.session
+  pub counted : b.acts ≡ a.acts
+  pub next : b.next ≡ a.next
+  pub leaves :
+      (log : List Act) → 32 * (1 + length log) ≤ MAX_TAKEN
+      → PartsStandAfter a.session.profile a log
+      → StandsBy (left_deeds a.session.profile log n) (left_late a.session.profile log n)
+      a.session.profile b log
+  pub ended :
+      (log : List Act) → 32 * (1 + length log) ≤ MAX_TAKEN
+      → PartsStandAfter a.session.profile a log
+      → HasEnded b (past_of a.session.profile log)
 
 -- how many of a link's two samplers are kept
-abbrev pub kept_of : {S : Type 0} → LinkState S → ℕ
+abbrev pub kept_of : LinkState FrameSend → ℕ
 kept_of l = one_if (is_some l.older) + one_if (is_some l.newer)
 
-module _ {S : Type 0} where
-  -- all that came or is known to come over the one came or is known to come over the other
-  abbrev pub Grows : LinkState S → LinkState S → Type 0
-  Grows l m = IsPrefix (l.came ++ l.coming) (m.came ++ m.coming)
+-- all that came or is known to come over the one came or is known to come over the other
+abbrev pub Grows : LinkState FrameSend → LinkState FrameSend → Type 0
+Grows l m = IsPrefix (l.came ++ l.coming) (m.came ++ m.coming)
 
-  -- nothing is known to come, or nothing is out
-  abbrev pub Rests : LinkState S → Type 0
-  Rests m = (m.coming ≡ []) ⊎ ((is_out m.older ≡ false) × (is_out m.newer ≡ false))
+-- nothing is known to come, or nothing is out
+abbrev pub Rests : LinkState FrameSend → Type 0
+Rests m = (m.coming ≡ []) ⊎ ((is_out m.older ≡ false) × (is_out m.newer ≡ false))
 
-module _ {S T : Type 0} where
-  -- what came back at event channel c was taken back, if something did: then one sampler less is
-  -- kept; else some list runs, or nothing is to come
-  pub record TakesOne (c : ℕ) (some : Bool) (a b : SlaveState S T) : Type 0 where
-    pub others : (k : ℕ) → k ≢ c → slice_get b.channels k ≡ slice_get a.channels k
-    pub grows :
-        (x y : ChannelState S T) → slice_get a.channels c ≡ Some x
-        → slice_get b.channels c ≡ Some y → Grows x.link y.link
-    pub yes :
-        some ≡ true → (x y : ChannelState S T) → slice_get a.channels c ≡ Some x
-        → slice_get b.channels c ≡ Some y → kept_of y.link + 1 ≡ kept_of x.link
-    pub no :
-        some ≡ false → (y : ChannelState S T) → slice_get b.channels c ≡ Some y
-        → Busy a.session ⊎ Rests y.link
+-- what came back at event channel c was taken back, if something did: then one sampler less is
+-- kept; else some list runs, or nothing is to come
+pub record TakesOne (c : ℕ) (some : Bool) (a b : SlaveState) : Type 0 where
+  pub others : (k : ℕ) → k ≢ c → slice_get b.channels k ≡ slice_get a.channels k
+  pub grows :
+      (x y : ChannelState) → slice_get a.channels c ≡ Some x
+      → slice_get b.channels c ≡ Some y → Grows x.link y.link
+  pub yes :
+      some ≡ true → (x y : ChannelState) → slice_get a.channels c ≡ Some x
+      → slice_get b.channels c ≡ Some y → kept_of y.link + 1 ≡ kept_of x.link
+  pub no :
+      some ≡ false → (y : ChannelState) → slice_get b.channels c ≡ Some y
+      → Busy a.session ⊎ Rests y.link
 
-  -- all that came back there was taken back
-  pub record TakesAll (c : ℕ) (a b : SlaveState S T) : Type 0 where
-    pub others : (k : ℕ) → k ≢ c → slice_get b.channels k ≡ slice_get a.channels k
-    pub grows :
-        (x y : ChannelState S T) → slice_get a.channels c ≡ Some x
-        → slice_get b.channels c ≡ Some y → Grows x.link y.link
-    pub rests :
-        (y : ChannelState S T) → slice_get b.channels c ≡ Some y → Busy a.session ⊎ Rests y.link
+-- all that came back there was taken back
+pub record TakesAll (c : ℕ) (a b : SlaveState) : Type 0 where
+  pub others : (k : ℕ) → k ≢ c → slice_get b.channels k ≡ slice_get a.channels k
+  pub grows :
+      (x y : ChannelState) → slice_get a.channels c ≡ Some x
+      → slice_get b.channels c ≡ Some y → Grows x.link y.link
+  pub rests : (y : ChannelState) → slice_get b.channels c ≡ Some y → Busy a.session ⊎ Rests y.link
 
-  -- all that the task of event channel c gave back came, if no list runs
-  pub record Gathers (c : ℕ) (end : TaskEndState S) (a b : SlaveState S T) : Type 0 where
-    pub others : (k : ℕ) → k ≢ c → slice_get b.channels k ≡ slice_get a.channels k
-    pub all :
-        (y : ChannelState S T) → slice_get b.channels c ≡ Some y
-        → Busy a.session ⊎ (y.link.came ≡ end.gave)
+-- all that the task of event channel c gave back came, if no list runs
+pub record Gathers (c : ℕ) (end : TaskEndState FrameSend) (a b : SlaveState) : Type 0 where
+  pub others : (k : ℕ) → k ≢ c → slice_get b.channels k ≡ slice_get a.channels k
+  pub all :
+      (y : ChannelState) → slice_get b.channels c ≡ Some y
+      → Busy a.session ⊎ (y.link.came ≡ end.gave)
 
-  -- so at the first n event channels; the others are as they were
-  pub record GathersFirst (n : ℕ) (ends : List (TaskEndState S)) (a b : SlaveState S T)
-      : Type 0 where
-    pub others : (k : ℕ) → n ≤ k → slice_get b.channels k ≡ slice_get a.channels k
-    pub all :
-        (c : ℕ) (end : TaskEndState S) (y : ChannelState S T) → c < n
-        → slice_get ends c ≡ Some end → slice_get b.channels c ≡ Some y
-        → Busy a.session ⊎ (y.link.came ≡ end.gave)
+-- so at the first n event channels; the others are as they were
+pub record GathersFirst (n : ℕ) (ends : List (TaskEndState FrameSend)) (a b : SlaveState)
+    : Type 0 where
+  pub others : (k : ℕ) → n ≤ k → slice_get b.channels k ≡ slice_get a.channels k
+  pub all :
+      (c : ℕ) (end : TaskEndState FrameSend) (y : ChannelState) → c < n
+      → slice_get ends c ≡ Some end → slice_get b.channels c ≡ Some y
+      → Busy a.session ⊎ (y.link.came ≡ end.gave)
 
-module _ {S T : Type 0} where
-  -- it says whether no part is kept of the measurements from the one to below the other
-  pub record HasAll (from to : ℕ) (now : List (ChannelState S T)) (has : Bool) : Type 0 where
-    pub yes : has ≡ true → KeepsNoneWithin from to now
-    pub no : has ≡ false → KeepsOneWithin from to now
+-- it says whether no part is kept of the measurements from the one to below the other
+pub record HasAll (from to : ℕ) (now : List ChannelState) (has : Bool) : Type 0 where
+  pub yes : has ≡ true → KeepsNoneWithin from to now
+  pub no : has ≡ false → KeepsOneWithin from to now
 
-  -- so of each of the last four up to an end, and of all before
-  pub record HasComplete (end : ℕ) (now : List (ChannelState S T)) (complete : Complete)
-      : Type 0 where
-    pub many : length complete.last ≡ LAST
-    pub last :
-        (i : ℕ) (has : Bool) → slice_get complete.last i ≡ Some has
-        → HasAll (end - LAST + i) (end - LAST + (i + 1)) now has
-    pub older : HasAll 0 (end - LAST) now complete.older
+-- so of each of the last four up to an end, and of all before
+pub record HasComplete (end : ℕ) (now : List ChannelState) (complete : Complete) : Type 0 where
+  pub many : length complete.last ≡ LAST
+  pub last :
+      (i : ℕ) (has : Bool) → slice_get complete.last i ≡ Some has
+      → HasAll (end - LAST + i) (end - LAST + (i + 1)) now has
+  pub older : HasAll 0 (end - LAST) now complete.older

@@ -1,7 +1,6 @@
 -- What follows from the definitions.
 use Rattle.std.specs.Prelude.{◌≡◌, ℕ, ◌+◌, ◌<◌, true, List}
 use Rattle.xcp_base.specs.declared.limits.TheConstants.{MAX_LISTS}
-use Rattle.channel_ring.specs.declared.ends.TakeEnd.{Ghosts as TakeGhosts}
 use Rattle.session.specs.Starts.{runs}
 use Rattle.session.specs.declared.profile.Profile.{Profile}
 use Rattle.slave_outbox.specs.Deeds.{passes}
@@ -22,7 +21,7 @@ abbrev pub SessionOfLog : Type 0
 SessionOfLog = (d : Profile) (log : List Act) → IsLog d log → SessionLaw d log
 
 -- after whichever two logs one slave stands, they tell one story
-abbrev pub OneSlaveOneStory : {T F : Type 0} → TakeGhosts T F → Type 0 → Type 0
-OneSlaveOneStory {T} take S =
-    (d : Profile) (s : SlaveState S T) (a b : List Act) → SlaveStandsAfter take d s a
-    → SlaveStandsAfter take d s b → SameStory d a b
+abbrev pub OneSlaveOneStory : Type 0
+OneSlaveOneStory =
+    (d : Profile) (s : SlaveState) (a b : List Act) → SlaveStandsAfter d s a
+    → SlaveStandsAfter d s b → SameStory d a b

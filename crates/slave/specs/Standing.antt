@@ -9,7 +9,6 @@ use Rattle.xcp_base.specs.declared.item.Item.{Item}
 use Rattle.xcp_base.specs.declared.item.Item.TheVariants.{Marker, Sample}
 use Rattle.xcp_base.specs.declared.limits.TheConstants.{MAX_LISTS, MAX_TAKEN}
 use Rattle.channel_ring.specs.Making.{ArePackets}
-use Rattle.channel_ring.specs.declared.ends.TakeEnd.{Ghosts as TakeGhosts}
 use Rattle.daq_store.specs.Configuration.{Configuration}
 use Rattle.session.specs.Past.{Past}
 use Rattle.session.specs.Standing.{SessionStandsAfter, SessionState}
@@ -43,10 +42,10 @@ use Rattle.slave.specs.Returns.{AreReturns, ends_in, returns_at}
 -- lists were set up where the newest measurement was opened, how many measurements were opened, the
 -- account of what came back, how much it counted of what it did, and the event channel at whose
 -- ring the next look begins
-pub record SlaveState (S T : Type 0) : Type 0 where
+pub record SlaveState : Type 0 where
   pub session : SessionState
   pub outbox : OutboxState
-  pub channels : List (ChannelState S T)
+  pub channels : List ChannelState
   pub plan : List Configuration
   pub number : ℕ
   pub account : AccountState
@@ -168,89 +167,78 @@ pub record Logged : Type 0 where
 abbrev pub logged : Profile → List Act → Logged
 logged d log = record { opened_at = λ m. past_at d m log; returns = λ c. returns_at c log }
 
-module _ {S T : Type 0} where
-  -- what is kept of an event channel are its parts of the measurements that are out
-  pub record IsOut (out : ℕ → Bool) (ch : ChannelState S T) : Type 0 where
-    pub newer : (m : ℕ) → number_of ch.newer ≡ Some m → out m ≡ true
-    pub older : (m : ℕ) → number_of ch.older ≡ Some m → out m ≡ true
-    pub kept :
-        (m : ℕ) → out m ≡ true → (number_of ch.newer ≡ Some m) ⊎ (number_of ch.older ≡ Some m)
+-- what is kept of an event channel are its parts of the measurements that are out
+pub record IsOut (out : ℕ → Bool) (ch : ChannelState) : Type 0 where
+  pub newer : (m : ℕ) → number_of ch.newer ≡ Some m → out m ≡ true
+  pub older : (m : ℕ) → number_of ch.older ≡ Some m → out m ≡ true
+  pub kept : (m : ℕ) → out m ≡ true → (number_of ch.newer ≡ Some m) ⊎ (number_of ch.older ≡ Some m)
 
-  -- the parts that are kept of event channel c were opened as the log says, and what came back
-  -- there is what came over the line with the task
-  pub record IsAsLogged (d : Profile) (l : Logged) (c : ℕ) (ch : ChannelState S T)
-      : Type 0 where
-    pub newer :
-        (p : ShareState T) → ch.newer ≡ Some p
-        → IsOpenedAfter d (l.opened_at p.number) c p.opened
-    pub older :
-        (p : ShareState T) → ch.older ≡ Some p
-        → IsOpenedAfter d (l.opened_at p.number) c p.opened
-    pub came : AreReturns (l.returns c) (ends_in ch.link.came)
+-- the parts that are kept of event channel c were opened as the log says, and what came back
+-- there is what came over the line with the task
+pub record IsAsLogged (d : Profile) (l : Logged) (c : ℕ) (ch : ChannelState) : Type 0 where
+  pub newer :
+      (p : ShareState) → ch.newer ≡ Some p → IsOpenedAfter d (l.opened_at p.number) c p.opened
+  pub older :
+      (p : ShareState) → ch.older ≡ Some p → IsOpenedAfter d (l.opened_at p.number) c p.opened
+  pub came : AreReturns (l.returns c) (ends_in ch.link.came)
 
-  -- where no list runs, each measurement has ended
-  abbrev pub HasEnded : SlaveState S T → Past → Type 0
-  HasEnded s past =
-      NoneRuns past
-      → (c : ℕ) (ch : ChannelState S T) → slice_get s.channels c ≡ Some ch
-      → takes_orders ch.link.newer ≡ false
+-- where no list runs, each measurement has ended
+abbrev pub HasEnded : SlaveState → Past → Type 0
+HasEnded s past =
+    NoneRuns past
+    → (c : ℕ) (ch : ChannelState) → slice_get s.channels c ≡ Some ch
+    → takes_orders ch.link.newer ≡ false
 
-module _ {T F : Type 0} (take : TakeGhosts T F) where
-  -- a part of measurement m was opened, and it stands after what was done there
-  pub record PartHas (n : ℕ) (deeds : ℕ → List Deed) (p : ShareState T) : Type 0 where
-    pub there : p.number < n
-    pub stands : IntakeStandsAfter take p.intake (deeds p.number)
+-- a part of measurement m was opened, and it stands after what was done there
+pub record PartHas (n : ℕ) (deeds : ℕ → List Deed) (p : ShareState) : Type 0 where
+  pub there : p.number < n
+  pub stands : IntakeStandsAfter p.intake (deeds p.number)
 
-  -- an event channel, where n measurements were opened and so much was done there in each: its
-  -- parts stand after that, only that of the newest takes orders, and of its lists run those that
-  -- run by the orders
-  pub record ChannelHas {S : Type 0} (n : ℕ) (deeds : ℕ → List Deed) (ch : ChannelState S T)
-      : Type 0 where
-    pub newer : (p : ShareState T) → ch.newer ≡ Some p → PartHas n deeds p
-    pub older : (p : ShareState T) → ch.older ≡ Some p → PartHas n deeds p × (p.number + 1 < n)
-    pub order :
-        (p q : ShareState T) → ch.older ≡ Some p → ch.newer ≡ Some q → p.number < q.number
-    pub newest :
-        takes_orders ch.link.newer ≡ true
-        → (p : ShareState T) → ch.newer ≡ Some p → p.number + 1 ≡ n
-    pub running :
-        (l : ℕ) → l < MAX_LISTS → is_running ch.link.newer l ≡ runs_there (deeds (n - 1)) l
+-- an event channel, where n measurements were opened and so much was done there in each: its
+-- parts stand after that, only that of the newest takes orders, and of its lists run those that
+-- run by the orders
+pub record ChannelHas (n : ℕ) (deeds : ℕ → List Deed) (ch : ChannelState) : Type 0 where
+  pub newer : (p : ShareState) → ch.newer ≡ Some p → PartHas n deeds p
+  pub older : (p : ShareState) → ch.older ≡ Some p → PartHas n deeds p × (p.number + 1 < n)
+  pub order : (p q : ShareState) → ch.older ≡ Some p → ch.newer ≡ Some q → p.number < q.number
+  pub newest :
+      takes_orders ch.link.newer ≡ true
+      → (p : ShareState) → ch.newer ≡ Some p → p.number + 1 ≡ n
+  pub running : (l : ℕ) → l < MAX_LISTS → is_running ch.link.newer l ≡ runs_there (deeds (n - 1)) l
 
-  -- the parts of a slave stand after a log of no more than 2^57 acts; at its event channels so much
-  -- was done in each measurement, and of each list so many samples of it were thrown away late
-  pub record StandsBy {S : Type 0} (deeds : ℕ → ℕ → List Deed) (late : ℕ → ℕ → ℕ) (d : Profile)
-      (s : SlaveState S T) (log : List Act)
-      : Type 0 where
-    pub few : 32 * length log ≤ MAX_TAKEN
-    pub is_log : IsLog d log
-    pub profile : s.session.profile ≡ d
-    pub session : SessionStandsAfter s.session (past_of d log)
-    pub outbox : OutboxStandsAfter s.outbox (sent_laid d log) (waits d log)
-    pub channels :
-        (c : ℕ) (ch : ChannelState S T) → slice_get s.channels c ≡ Some ch
-        → ChannelHas (opened log) (deeds c) ch
-    pub out :
-        (c : ℕ) (ch : ChannelState S T) → slice_get s.channels c ≡ Some ch
-        → IsOut (λ m. is_out m c log) ch
-    pub as_logged :
-        (c : ℕ) (ch : ChannelState S T) → slice_get s.channels c ≡ Some ch
-        → IsAsLogged d (logged d log) c ch
-    pub many : length s.channels ≡ length d.events.items
-    pub plan : s.plan ≡ plan_at d log
-    pub number : s.number ≡ opened log
-    pub account : AccountStandsAfter s.account (entries_of d log) late
+-- the parts of a slave stand after a log of no more than 2^57 acts; at its event channels so much
+-- was done in each measurement, and of each list so many samples of it were thrown away late
+pub record StandsBy (deeds : ℕ → ℕ → List Deed) (late : ℕ → ℕ → ℕ) (d : Profile) (s : SlaveState)
+    (log : List Act)
+    : Type 0 where
+  pub few : 32 * length log ≤ MAX_TAKEN
+  pub is_log : IsLog d log
+  pub profile : s.session.profile ≡ d
+  pub session : SessionStandsAfter s.session (past_of d log)
+  pub outbox : OutboxStandsAfter s.outbox (sent_laid d log) (waits d log)
+  pub channels :
+      (c : ℕ) (ch : ChannelState) → slice_get s.channels c ≡ Some ch
+      → ChannelHas (opened log) (deeds c) ch
+  pub out :
+      (c : ℕ) (ch : ChannelState) → slice_get s.channels c ≡ Some ch
+      → IsOut (λ m. is_out m c log) ch
+  pub as_logged :
+      (c : ℕ) (ch : ChannelState) → slice_get s.channels c ≡ Some ch
+      → IsAsLogged d (logged d log) c ch
+  pub many : length s.channels ≡ length d.events.items
+  pub plan : s.plan ≡ plan_at d log
+  pub number : s.number ≡ opened log
+  pub account : AccountStandsAfter s.account (entries_of d log) late
 
-  abbrev pub SlaveHas : {S : Type 0} → Profile → SlaveState S T → List Act → Type 0
-  SlaveHas d s log = StandsBy (λ c m. deeds_of d m c log) (late_in d log) d s log
+abbrev pub SlaveHas : Profile → SlaveState → List Act → Type 0
+SlaveHas d s log = StandsBy (λ c m. deeds_of d m c log) (late_in d log) d s log
 
-  -- all parts of a slave stand after a log
-  pub record PartsStandAfter {S : Type 0} (d : Profile) (s : SlaveState S T) (log : List Act)
-      : Type 0 where
-    pub has : SlaveHas d s log
-    pub ended : HasEnded s (past_of d log)
+-- all parts of a slave stand after a log
+pub record PartsStandAfter (d : Profile) (s : SlaveState) (log : List Act) : Type 0 where
+  pub has : SlaveHas d s log
+  pub ended : HasEnded s (past_of d log)
 
-  -- a slave stands after a log: its parts do, and it counted no less than the log weighs
-  pub record SlaveStandsAfter {S : Type 0} (d : Profile) (s : SlaveState S T) (log : List Act)
-      : Type 0 where
-    pub parts : PartsStandAfter d s log
-    pub counted : weight d log ≤ s.acts
+-- a slave stands after a log: its parts do, and it counted no less than the log weighs
+pub record SlaveStandsAfter (d : Profile) (s : SlaveState) (log : List Act) : Type 0 where
+  pub parts : PartsStandAfter d s log
+  pub counted : weight d log ≤ s.acts

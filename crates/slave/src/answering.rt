@@ -6,16 +6,14 @@ ghost use Rattle.session.specs.Fields.{packet_of};
 ghost use Rattle.slave.specs.Inner.{Answers, LaysReply, Settles};
 
 use crate::slave::Slave;
-use daq_engine::Ring;
 use session::Cto;
 use xcp_base::{ErrCode, ListSet};
 
-impl<R: Ring> Slave<R> {
+impl Slave {
     /// Answers a packet whose lists were started.
     pub(crate) fn answer(&mut self, packet: &[u8], clock: u32, memory: &[&[u8]])
         requires room { has_room self.old.outbox ≡ true }
-        ensures answers { Answers R.Take.TakeEnd self.old self.new packet.now
-            (given_by clock memory.now) }
+        ensures answers { Answers self.old self.new packet.now (given_by clock memory.now) }
         ensures shown_stays { self.new.outbox.shown ≡ self.old.outbox.shown }
         ensures profile_stays { self.new.session.profile ≡ self.old.session.profile }
         ensures acts_stay { self.new.acts ≡ self.old.acts }
@@ -40,7 +38,7 @@ impl<R: Ring> Slave<R> {
 
     /// Stops the lists that ran before and don't now, and ends the measurement where none runs.
     pub(crate) fn settle(&mut self, before: ListSet, now: ListSet)
-        ensures settles { Settles R.Take.TakeEnd self.old.channels self.new.channels before now }
+        ensures settles { Settles self.old.channels self.new.channels before now }
         ensures rest_stays { self.new ≡ record self.old { channels = self.new.channels } }
     {
         self.channels.stop_all(before.difference(now));

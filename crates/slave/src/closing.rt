@@ -9,7 +9,7 @@ ghost use Rattle.slave_channels.specs.Each.{IsOnlyAt};
 
 use crate::complete::Complete;
 use crate::slave::Slave;
-use daq_engine::Ring;
+use frame_ring::FrameSend;
 use slave_channels::{Account, LAST};
 use tasks::TaskEnd;
 
@@ -25,7 +25,7 @@ pub struct Closed {
     pub complete: Complete,
 }
 
-impl<R: Ring> Slave<R> {
+impl Slave {
     /// The account of the session so far: of each DAQ list what was due, written, dropped and left,
     /// over all parts of measurements that came back. A sample that was laid out counts as written,
     /// as long as its last packet isn't thrown away.
@@ -41,10 +41,10 @@ impl<R: Ring> Slave<R> {
     /// The tasks are finished before, and what is left of each is handed in, in the order of the
     /// event channels: all that they gave back is in the account. What a task did not fetch is
     /// recalled; if it can't be, the account isn't whole.
-    pub fn close(mut self, mut ends: Vec<TaskEnd<R::Send>>) -> Closed
+    pub fn close(mut self, mut ends: Vec<TaskEnd<FrameSend>>) -> Closed
         requires tasks { AreEndsOf self.channels ends.items }
-        ensures closes { Closes R.Take.TakeEnd self ends.items result.account result.is_whole
-            result.complete }
+        ensures closes { Closes self ends.items
+            result.account result.is_whole result.complete }
         ensures many { length result.complete.last ≡ OWN }
     {
         self.hang_up();
@@ -82,9 +82,9 @@ impl<R: Ring> Slave<R> {
     }
 
     /// Takes back, at all event channels, what their tasks gave back, which were finished.
-    fn gather_all(&mut self, ends: &mut Vec<TaskEnd<R::Send>>)
+    fn gather_all(&mut self, ends: &mut Vec<TaskEnd<FrameSend>>)
         requires tasks { AreEndsOf self.old.channels ends.old.items }
-        ensures collects { Collects R.Take.TakeEnd (2 * MAX_CHANNELS) self.old self.new }
+        ensures collects { Collects (2 * MAX_CHANNELS) self.old self.new }
         ensures gathers { GathersFirst (length self.old.channels) ends.old.items
             self.old self.new }
     {
@@ -94,10 +94,10 @@ impl<R: Ring> Slave<R> {
     }
 
     /// Takes back what the task of event channel `c` gave back, which was finished.
-    fn gather(&mut self, c: usize, end: &mut TaskEnd<R::Send>)
+    fn gather(&mut self, c: usize, end: &mut TaskEnd<FrameSend>)
         requires channel { c < length self.old.channels }
         requires one_line { IsRingAt c self.old.channels end.old.ring }
-        ensures collects { Collects R.Take.TakeEnd 2 self.old self.new }
+        ensures collects { Collects 2 self.old self.new }
         ensures gathers { Gathers c end.old self.old self.new }
         ensures end_stays { end.new ≡ end.old }
     {
@@ -107,10 +107,10 @@ impl<R: Ring> Slave<R> {
     }
 
     /// Looks at all that the task of event channel `c` gave back, which was finished.
-    fn look_beside(&mut self, c: usize, end: &mut TaskEnd<R::Send>)
+    fn look_beside(&mut self, c: usize, end: &mut TaskEnd<FrameSend>)
         requires channel { c < length self.old.channels }
         requires one_line { IsRingAt c self.old.channels end.old.ring }
-        ensures collects { Collects R.Take.TakeEnd 0 self.old self.new }
+        ensures collects { Collects 0 self.old self.new }
         ensures beside { IsOnlyAt (IsBeside end.old) c self.old.channels self.new.channels }
         ensures end_stays { end.new ≡ end.old }
     {

@@ -6,7 +6,6 @@ ghost use Rattle.slave.specs.Receiving.{HearsDatagram};
 
 use crate::Slave;
 use crate::stream::MasterStream;
-use daq_engine::Ring;
 use std::alloc::Global;
 
 /// Has the slave hear the packets of the frames of one datagram, and returns how many bytes it
@@ -16,14 +15,14 @@ use std::alloc::Global;
 ///
 /// A part of a frame at the end, or a LEN that is 0 or over MAX_CTO, drops what is left of this
 /// datagram, and nothing else: the next one is heard from its first byte.
-pub fn datagram<R: Ring>(
-    slave: &mut Slave<R>,
+pub fn datagram(
+    slave: &mut Slave,
     alloc: Global,
     bytes: &[u8],
     clock: u32,
     memory: &[&[u8]],
 ) -> usize
-    ensures hears { HearsDatagram R.Take.TakeEnd slave.old slave.new (given_by clock memory.now)
+    ensures hears { HearsDatagram slave.old slave.new (given_by clock memory.now)
         bytes.now result }
     ensures within { result ≤ length bytes.now }
     ensures all { (result ≡ length bytes.now) ⊎ (may_hear slave.new ≡ false) }

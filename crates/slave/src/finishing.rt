@@ -11,27 +11,26 @@ ghost use Rattle.std.specs.Option.{is_some};
 
 use crate::limits::PER_ACT;
 use crate::slave::Slave;
-use daq_engine::Ring;
 use slave_channels::{Account, Finished};
 
 /// Adds a part that came back to an account, if there is one.
-fn note<R: Ring>(account: &mut Account, part: &Option<Finished<R>>)
-    ensures { Notes R.Send.End.RingEnd R.Take.TakeEnd account.old account.new part.now }
+fn note(account: &mut Account, part: &Option<Finished>)
+    ensures { Notes account.old account.new part.now }
 {
     if let Some(part) = part {
         account.add(part);
     }
 }
 
-impl<R: Ring> Slave<R> {
+impl Slave {
     /// What came back of a measurement that has ended, at event channel `c`: of the last two with a
     /// part there, the older first. Of the newest measurement it is while no list runs. Its task
     /// gives it back when it looks for orders, or never took it. `None` if nothing came back there,
     /// or there is no such event channel, or the slave is spent.
     ///
     /// A start that opens a measurement takes back what came back before.
-    pub fn take_back(&mut self, c: usize) -> Option<Finished<R>>
-        ensures back { GivesBack R.Take.TakeEnd R.Send.End.RingEnd self.old self.new c result }
+    pub fn take_back(&mut self, c: usize) -> Option<Finished>
+        ensures back { GivesBack self.old self.new c result }
         ensures counts { OnSome result (self.new.acts ≡ self.old.acts + PER_ACT) }
         ensures acts_stay { IsNone result → self.new.acts ≡ self.old.acts }
         ensures next_stays { self.new.next ≡ self.old.next }
@@ -45,9 +44,8 @@ impl<R: Ring> Slave<R> {
     }
 
     /// What came back at event channel `c`, which isn't counted yet.
-    fn back_at(&mut self, c: usize) -> Option<Finished<R>>
-        ensures back { GivesBackBy R.Take.TakeEnd (PartsGoBy R.Take.TakeEnd)
-            R.Send.End.RingEnd self.old self.new c result }
+    fn back_at(&mut self, c: usize) -> Option<Finished>
+        ensures back { GivesBackBy PartsGoBy self.old self.new c result }
         ensures one { TakesOne c (is_some result) self.old self.new }
         ensures acts_stay { self.new.acts ≡ self.old.acts }
         ensures next_stays { self.new.next ≡ self.old.next }
@@ -82,7 +80,7 @@ impl<R: Ring> Slave<R> {
 
     /// Takes back what came back, at all event channels.
     pub(crate) fn collect(&mut self)
-        ensures { Collects R.Take.TakeEnd (2 * MAX_CHANNELS) self.old self.new }
+        ensures { Collects (2 * MAX_CHANNELS) self.old self.new }
     {
         for c in 0..self.channels.len() {
             self.collect_at(c);
@@ -91,7 +89,7 @@ impl<R: Ring> Slave<R> {
 
     /// Takes back what came back at an event channel: of one measurement, or of two.
     pub(crate) fn collect_at(&mut self, c: usize)
-        ensures collects { Collects R.Take.TakeEnd 2 self.old self.new }
+        ensures collects { Collects 2 self.old self.new }
         ensures all { TakesAll c self.old self.new }
     {
         if self.collect_one(c) {
@@ -102,7 +100,7 @@ impl<R: Ring> Slave<R> {
     /// Takes back what came back of one measurement at an event channel, and frees it; and returns
     /// whether something did.
     fn collect_one(&mut self, c: usize) -> bool
-        ensures collects { Collects R.Take.TakeEnd 1 self.old self.new }
+        ensures collects { Collects 1 self.old self.new }
         ensures one { TakesOne c result self.old self.new }
     {
         let Some(part) = self.back_at(c) else {
@@ -114,15 +112,12 @@ impl<R: Ring> Slave<R> {
     }
 
     /// What came back of the one before the last with a part there.
-    fn take_older(&mut self, c: usize) -> Option<Finished<R>>
+    fn take_older(&mut self, c: usize) -> Option<Finished>
         requires channel { c < length self.old.channels }
-        ensures back { GivesBackBy R.Take.TakeEnd (PartsGoBy R.Take.TakeEnd)
-            R.Send.End.RingEnd self.old self.new c result }
+        ensures back { GivesBackBy PartsGoBy self.old self.new c result }
         ensures acts_stay { self.new.acts ≡ self.old.acts }
         ensures next_stays { self.new.next ≡ self.old.next }
-        ensures there { IsOnlyAt (GivesBackOlder
-            R.Send.SendEnd R.Send.End.RingEnd R.Take.TakeEnd result)
-            c self.old.channels self.new.channels }
+        ensures there { IsOnlyAt (GivesBackOlder result) c self.old.channels self.new.channels }
     {
         let part = self.channels.take_older(c);
         note(&mut self.account, &part);
@@ -130,16 +125,13 @@ impl<R: Ring> Slave<R> {
     }
 
     /// What came back of the last measurement with a part there, which has ended.
-    fn take_newer(&mut self, c: usize) -> Option<Finished<R>>
+    fn take_newer(&mut self, c: usize) -> Option<Finished>
         requires over { IsOver self.old c }
         requires channel { c < length self.old.channels }
-        ensures back { GivesBackBy R.Take.TakeEnd (PartsGoBy R.Take.TakeEnd)
-            R.Send.End.RingEnd self.old self.new c result }
+        ensures back { GivesBackBy PartsGoBy self.old self.new c result }
         ensures acts_stay { self.new.acts ≡ self.old.acts }
         ensures next_stays { self.new.next ≡ self.old.next }
-        ensures there { IsOnlyAt (GivesBackNewer
-            R.Send.SendEnd R.Send.End.RingEnd R.Take.TakeEnd result)
-            c self.old.channels self.new.channels }
+        ensures there { IsOnlyAt (GivesBackNewer result) c self.old.channels self.new.channels }
     {
         let part = self.channels.take_newer(c);
         note(&mut self.account, &part);

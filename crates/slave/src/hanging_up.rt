@@ -6,18 +6,17 @@ ghost use Rattle.slave.specs.Inner.{LeavesFirst, LeavesOne, PartsGoBy};
 ghost use Rattle.slave.specs.Log.{Discarded, HungUp, discarding, losing};
 
 use crate::slave::Slave;
-use daq_engine::Ring;
 use slave_outbox::Origin;
 use xcp_base::{ListId, ListSet};
 
-impl<R: Ring> Slave<R> {
+impl Slave {
     /// The transport was lost: it is as behind DISCONNECT, but nothing is replied; and what waits
     /// to be sent is thrown away, with a peek that wasn't sent, so that nothing of one master
     /// reaches the next. Samples that are thrown away are left, also one of which only some frames
     /// were sent: the others are never sent. The next frame has the CTR behind that of the last
     /// frame that was sent.
     pub fn hang_up(&mut self)
-        ensures hangs_up { GoesBy R.Take.TakeEnd self.old self.new
+        ensures hangs_up { GoesBy self.old self.new
             (discarding (has_waiting self.old.outbox) ++ losing self.old.session.connected) }
         ensures none_waits { self.new.outbox.waits ≡ [] }
         ensures none_shown { self.new.outbox.shown ≡ 0 }
@@ -33,8 +32,7 @@ impl<R: Ring> Slave<R> {
     /// connected. So it is behind DISCONNECT, but nothing is replied. What waits to be sent waits
     /// on. While no master is connected, nothing changes.
     pub fn disconnect(&mut self)
-        ensures disconnects { GoesBy R.Take.TakeEnd self.old self.new
-            (losing self.old.session.connected) }
+        ensures disconnects { GoesBy self.old self.new (losing self.old.session.connected) }
         ensures outbox_stays { self.new.outbox ≡ self.old.outbox }
         ensures profile_stays { self.new.session.profile ≡ self.old.session.profile }
         ensures acts_stay { self.new.acts ≡ self.old.acts }
@@ -47,7 +45,7 @@ impl<R: Ring> Slave<R> {
 
     /// The master that is connected is lost.
     fn lose_master(&mut self)
-        ensures loses { PartsGoBy R.Take.TakeEnd self.old self.new (HungUp ∷ []) }
+        ensures loses { PartsGoBy self.old self.new (HungUp ∷ []) }
         ensures outbox_stays { self.new.outbox ≡ self.old.outbox }
         ensures profile_stays { self.new.session.profile ≡ self.old.session.profile }
         ensures acts_stay { self.new.acts ≡ self.old.acts }
@@ -60,8 +58,7 @@ impl<R: Ring> Slave<R> {
 
     /// What waits is thrown away, if something does.
     fn discard(&mut self)
-        ensures discards { GoesBy R.Take.TakeEnd self.old self.new
-            (discarding (has_waiting self.old.outbox)) }
+        ensures discards { GoesBy self.old self.new (discarding (has_waiting self.old.outbox)) }
         ensures none_waits { self.new.outbox.waits ≡ [] }
         ensures none_shown { self.new.outbox.shown ≡ 0 }
         ensures session_stays { self.new.session ≡ self.old.session }
@@ -75,7 +72,7 @@ impl<R: Ring> Slave<R> {
 
     /// What waits is thrown away.
     fn throw_away(&mut self)
-        ensures discards { PartsGoBy R.Take.TakeEnd self.old self.new (Discarded ∷ []) }
+        ensures discards { PartsGoBy self.old self.new (Discarded ∷ []) }
         ensures none_waits { self.new.outbox.waits ≡ [] }
         ensures none_shown { self.new.outbox.shown ≡ 0 }
         ensures session_stays { self.new.session ≡ self.old.session }
@@ -88,7 +85,7 @@ impl<R: Ring> Slave<R> {
 
     /// Each sample that waits, as a whole or in part, is left: its part is told, or the account.
     fn leave_all(&mut self)
-        ensures leaves { LeavesFirst R.Take.TakeEnd (length (origins_in self.old.outbox.waits))
+        ensures leaves { LeavesFirst (length (origins_in self.old.outbox.waits))
             self.old self.new }
     {
         for i in 0..self.outbox.len() {
@@ -100,7 +97,7 @@ impl<R: Ring> Slave<R> {
     /// What is from there isn't sent. A sample is left: its part is told if it did not come back,
     /// and else the account.
     fn leave(&mut self, origin: Origin)
-        ensures leaves { LeavesOne R.Take.TakeEnd origin self.old self.new }
+        ensures leaves { LeavesOne origin self.old self.new }
     {
         let Origin::Sample(number, c, list) = origin else {
             return;

@@ -8,10 +8,9 @@ ghost use Rattle.slave.specs.declared.limits.TheConstants.{MOST_ACTS, PER_PACKET
 
 use crate::limits::{MOST_ACTS, PER_PACKET};
 use crate::slave::Slave;
-use daq_engine::Ring;
 use std::alloc::Global;
 
-impl<R: Ring> Slave<R> {
+impl Slave {
     /// Whether it did so much that it hears and takes nothing any more: it counted some 2^57 acts,
     /// of which a packet counts as 128 and an item as 126. What waits is still sent.
     pub fn is_spent(&self) -> bool
@@ -46,7 +45,7 @@ impl<R: Ring> Slave<R> {
         ensures room { result ≡ may_hear self.old }
         ensures stays { result ≡ false → self.new ≡ self.old }
         ensures heard { result ≡ true
-            → Hears R.Take.TakeEnd self.old self.new packet.now (given_by clock memory.now) }
+            → Hears self.old self.new packet.now (given_by clock memory.now) }
         ensures counts { result ≡ true → self.new.acts ≡ self.old.acts + PER_PACKET }
         ensures shown_stays { self.new.outbox.shown ≡ self.old.outbox.shown }
         ensures profile_stays { self.new.session.profile ≡ self.old.session.profile }
@@ -63,8 +62,8 @@ impl<R: Ring> Slave<R> {
     /// Hears a packet, and doesn't count it yet.
     fn hear_one(&mut self, alloc: Global, packet: &[u8], clock: u32, memory: &[&[u8]])
         requires room { has_room self.old.outbox ≡ true }
-        ensures heard { Hears R.Take.TakeEnd self.old (counting self.new PER_PACKET)
-            packet.now (given_by clock memory.now) }
+        ensures heard { Hears self.old (counting self.new PER_PACKET) packet.now
+            (given_by clock memory.now) }
         ensures shown_stays { self.new.outbox.shown ≡ self.old.outbox.shown }
         ensures profile_stays { self.new.session.profile ≡ self.old.session.profile }
         ensures acts_stay { self.new.acts ≡ self.old.acts }

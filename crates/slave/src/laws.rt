@@ -2,8 +2,6 @@
 ghost use Rattle.slave.specs.Laws.{NothingOutsideARun, OneSlaveOneStory, SessionOfLog};
 ghost use Rattle.slave.specs.Turns.{FairShares};
 
-use daq_engine::Ring;
-
 /// A sample that is laid out is of the newest measurement, and its DAQ list runs: so it stands
 /// behind the reply to the start of the list, and before that to its stop.
 pub fn nothing_outside_a_run()
@@ -26,14 +24,14 @@ pub fn session()
 
 /// Two logs after which one slave stands tell one story: the same bytes were sent and wait, the
 /// sums over what came back agree modulo 2^64, and the same parts of measurements are still out.
-pub fn one_slave_one_story<R: Ring>()
-    ensures { OneSlaveOneStory R.Take.TakeEnd R.Send }
+pub fn one_slave_one_story()
+    ensures { OneSlaveOneStory }
 {}
 
 /// Over as many calls of `take` as one likes, each of which begins at the ring that the one before
 /// it named, no ring gives more than one item more than a ring of which each call leaves some that
 /// was known before it: two such rings share alike what is taken. None of the calls spends the
 /// slave.
-pub fn fair_shares<R: Ring>()
-    ensures { FairShares R.Take.TakeEnd R.Send }
+pub fn fair_shares()
+    ensures { FairShares }
 {}

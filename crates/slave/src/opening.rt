@@ -1,6 +1,5 @@
 //! A slave and its tasks are opened with a profile.
 ghost use Rattle.std.specs.Prelude.{◌≡◌, [], IfErr, IfOk, OnOk, length, map};
-ghost use Rattle.std.specs.List.{list_all};
 ghost use Rattle.slave.specs.Openings.{capacities_in};
 ghost use Rattle.slave.specs.Refusals.{CanOpen, IsOpenRefusal};
 ghost use Rattle.slave.specs.Standing.{SlaveStandsAfter};
@@ -9,7 +8,7 @@ ghost use Rattle.tasks.specs.Tasks.{just_begun};
 
 use crate::plan::Plan;
 use crate::slave::Slave;
-use daq_engine::Ring;
+use frame_ring::FrameSend;
 use session::{EventChannel, Profile, ProfileFault, Session};
 use slave_channels::{Account, Channels};
 use slave_outbox::Outbox;
@@ -23,9 +22,6 @@ pub enum OpenFault {
     /// The profile is out of a limit.
     #[error("{0}")]
     Profile(ProfileFault),
-    /// A ring of this kind may not have one of the capacities: the profile names another kind.
-    #[error("a ring of this kind may not have one of the capacities")]
-    Capacity,
     /// There is no memory.
     #[error("out of memory")]
     Memory,
@@ -42,29 +38,17 @@ fn capacities(alloc: Global, events: &[EventChannel]) -> Result<Vec<usize>, Allo
     Ok(caps)
 }
 
-/// Whether a ring of this kind may have each of these capacities.
-fn may_have<R: Ring>(caps: &[usize]) -> bool
-    ensures { result ≡ list_all R.is_cap caps.now }
-{
-    caps.iter().all(|&cap| R::is_cap(cap))
-}
-
-impl<R: Ring> Slave<R> {
+impl Slave {
     /// A slave with this profile, and the tasks of its event channels, in their order, each on a
     /// line with this slave. No master is connected, there is no DAQ list, and nothing waits.
     ///
     /// Refused with `Profile` if the profile is out of a limit, with the first of them; else with
-    /// `Capacity` if a ring of this kind may not have one of the capacities; or, before or after
-    /// that, with `Memory` if there is no memory.
-    pub fn open(
-        alloc: Global,
-        profile: Profile,
-    ) -> Result<(Slave<R>, Vec<Task<R::Send>>), OpenFault>
-        ensures can { OnOk result (CanOpen R.is_cap profile) }
-        ensures refusal { IfErr result (IsOpenRefusal R.is_cap profile) }
+    /// `Memory` if there is no memory.
+    pub fn open(alloc: Global, profile: Profile) -> Result<(Slave, Vec<Task<FrameSend>>), OpenFault>
+        ensures can { OnOk result (CanOpen profile) }
+        ensures refusal { IfErr result (IsOpenRefusal profile) }
         ensures profile { IfOk result (λ made. made.0.session.profile ≡ profile) }
-        ensures stands { IfOk result
-            (λ made. SlaveStandsAfter R.Take.TakeEnd profile made.0 []) }
+        ensures stands { IfOk result (λ made. SlaveStandsAfter profile made.0 []) }
         ensures counts { IfOk result (λ made. made.0.acts ≡ 0) }
         ensures next { IfOk result (λ made. made.0.next ≡ 0) }
         ensures none_shown { IfOk result (λ made. made.0.outbox.shown ≡ 0) }
@@ -79,9 +63,6 @@ impl<R: Ring> Slave<R> {
         let Ok(caps) = capacities(alloc, &profile.events) else {
             return Err(OpenFault::Memory);
         };
-        if !may_have::<R>(&caps) {
-            return Err(OpenFault::Capacity);
-        }
         let Ok(session) = Session::open(alloc, profile) else {
             unreachable!()
         };

@@ -15,7 +15,6 @@ ghost use Rattle.slave.specs.declared.limits.TheConstants.{PER_ACT};
 use crate::limits::PER_ACT;
 use crate::round::{Round, is_full};
 use crate::slave::Slave;
-use daq_engine::Ring;
 use slave_outbox::Step;
 
 /// The most items that are taken off one ring in a call.
@@ -32,7 +31,7 @@ fn acts_of(step: Step) -> u64
     }
 }
 
-impl<R: Ring> Slave<R> {
+impl Slave {
     /// Takes items off the newest measurement's rings, round by round: in a round at most one of
     /// each, in rising event channel. It lays those samples out whose DAQ list runs, as long as
     /// their frames end within the page; the call ends at the first sample that finds no room, and
@@ -44,10 +43,10 @@ impl<R: Ring> Slave<R> {
     /// tasks' stops find room. It takes no memory, and nothing off the rings of a slave that is
     /// spent (`is_spent`).
     pub fn take(&mut self)
-        ensures takes { TakesItems R.Take.TakeEnd most_taken self.old self.new }
-        ensures through { LooksThrough R.Take.TakeEnd self.old self.new }
-        ensures fair { TakesFairly R.Take.TakeEnd self.old self.new }
-        ensures lets_go { LetsGo R.Take.TakeEnd self.old self.new }
+        ensures takes { TakesItems most_taken self.old self.new }
+        ensures through { LooksThrough self.old self.new }
+        ensures fair { TakesFairly self.old self.new }
+        ensures lets_go { LetsGo self.old self.new }
     {
         self.let_go();
         let mut begin = self.next;
@@ -65,9 +64,9 @@ impl<R: Ring> Slave<R> {
     /// Takes an item of each ring, from that of event channel `begin` on. It breaks off at a sample
     /// that finds no room, and notes its channel in `next`; else `next` is 0.
     fn round(&mut self, begin: usize) -> Round
-        ensures takes { TakesItems R.Take.TakeEnd MAX_CHANNELS self.old self.new }
-        ensures ends { EndsRound R.Take.TakeEnd self.old self.new begin result }
-        ensures goes { GoesRound R.Take.TakeEnd self.old self.new begin result }
+        ensures takes { TakesItems MAX_CHANNELS self.old self.new }
+        ensures ends { EndsRound self.old self.new begin result }
+        ensures goes { GoesRound self.old self.new begin result }
         ensures older { KeepsOlder self.old self.new }
     {
         let before = self.acts;
@@ -88,9 +87,9 @@ impl<R: Ring> Slave<R> {
 
     /// Takes up to 1,024 items of each ring of the measurement before the last.
     fn let_go(&mut self)
-        ensures takes { TakesItems R.Take.TakeEnd (1024 * MAX_CHANNELS) self.old self.new }
+        ensures takes { TakesItems (1024 * MAX_CHANNELS) self.old self.new }
         ensures keeps { KeepsNewest self.old self.new }
-        ensures goes { LetsGo R.Take.TakeEnd self.old self.new }
+        ensures goes { LetsGo self.old self.new }
     {
         for c in 0..self.channels.len() {
             self.take_from_older(c);
@@ -100,9 +99,9 @@ impl<R: Ring> Slave<R> {
     /// Takes up to 1,024 items of the measurement before the last at event channel `c`.
     fn take_from_older(&mut self, c: usize)
         requires channel { c < length self.old.channels }
-        ensures takes { TakesItems R.Take.TakeEnd 1024 self.old self.new }
+        ensures takes { TakesItems 1024 self.old self.new }
         ensures keeps { KeepsNewest self.old self.new }
-        ensures goes { LetsGoThere R.Take.TakeEnd self.old self.new c }
+        ensures goes { LetsGoThere self.old self.new c }
     {
         let mut taken = 0;
         while taken < MOST_ITEMS {
@@ -117,8 +116,8 @@ impl<R: Ring> Slave<R> {
     /// Takes the next item of the newest measurement at event channel `c`, if there is one.
     fn take_one(&mut self, c: usize) -> Step
         requires channel { c < length self.old.channels }
-        ensures takes { TakesItems R.Take.TakeEnd 1 self.old self.new }
-        ensures looks { LooksOnce R.Take.TakeEnd self.old self.new c result }
+        ensures takes { TakesItems 1 self.old self.new }
+        ensures looks { LooksOnce self.old self.new c result }
         ensures older { KeepsOlder self.old self.new }
     {
         if self.is_spent() {
@@ -132,9 +131,9 @@ impl<R: Ring> Slave<R> {
     /// The same of the measurement before it.
     fn take_one_older(&mut self, c: usize) -> Step
         requires channel { c < length self.old.channels }
-        ensures takes { TakesItems R.Take.TakeEnd 1 self.old self.new }
+        ensures takes { TakesItems 1 self.old self.new }
         ensures keeps { KeepsNewest self.old self.new }
-        ensures looks { LooksOlder R.Take.TakeEnd self.old self.new c result }
+        ensures looks { LooksOlder self.old self.new c result }
     {
         if self.is_spent() {
             return Step::Nothing;
@@ -155,7 +154,7 @@ impl<R: Ring> Slave<R> {
         ensures behind { drop result buffer.new ≡ drop result buffer.old }
         ensures outbox { self.new.outbox
             ≡ record self.old.outbox { shown = self.new.outbox.shown } }
-        ensures stays { GoesBy R.Take.TakeEnd self.old self.new [] }
+        ensures stays { GoesBy self.old self.new [] }
         ensures profile_stays { self.new.session.profile ≡ self.old.session.profile }
         ensures acts_stay { self.new.acts ≡ self.old.acts }
         ensures next_stays { self.new.next ≡ self.old.next }
@@ -165,7 +164,7 @@ impl<R: Ring> Slave<R> {
 
     /// The frames that the last peek showed were sent, and wait no more.
     pub fn sent(&mut self)
-        ensures sends { GoesBy R.Take.TakeEnd self.old self.new
+        ensures sends { GoesBy self.old self.new
             (sending (min self.old.outbox.shown (length self.old.outbox.waits))) }
         ensures none_shown { self.new.outbox.shown ≡ 0 }
         ensures profile_stays { self.new.session.profile ≡ self.old.session.profile }

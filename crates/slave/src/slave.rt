@@ -1,6 +1,5 @@
 //! What a slave is made of: session, outbox, event channels, account.
 use crate::plan::Plan;
-use daq_engine::Ring;
 use session::Session;
 use slave_channels::{Account, Channels};
 use slave_outbox::Outbox;
@@ -11,10 +10,10 @@ use std::marker::Model;
 ///
 /// Contracts speak of a slave by its log, what it did so far: it *stands after* it.
 #[derive(Drop)]
-pub struct Slave<R: Ring> {
+pub struct Slave {
     pub(crate) session: Session,
     pub(crate) outbox: Outbox,
-    pub(crate) channels: Channels<R>,
+    pub(crate) channels: Channels,
     pub(crate) caps: Vec<usize>,
     pub(crate) plan: Plan,
     pub(crate) number: u64,
@@ -25,13 +24,16 @@ pub struct Slave<R: Ring> {
     pub(crate) next: usize,
 }
 
-impl<R: Ring> Model for Slave<R> {
+impl Model for Slave {
     ghost use Rattle.std.specs.Prelude.{◌≡◌, ◌+◌, ◌<◌, length};
     ghost use Rattle.slave.specs.Openings.{capacities_of};
     ghost use Rattle.slave.specs.Standing.{SlaveState};
     ghost use Rattle.slave.specs.declared.limits.TheConstants.{MOST_ACTS, PER_PACKET};
+    ghost use Rattle.slave_channels.specs.Codes.{end_codes};
 
-    ghost Value = { SlaveState R.Send R.Take };
+    ghost Value = { SlaveState };
+
+    ghost coded = { Prim.hlevel end_codes };
 
     ghost view = { λ s. record {
       session = s.session;

@@ -11,7 +11,6 @@ ghost use Rattle.slave_channels.specs.Calls.{HasSome};
 
 use crate::plan::Plan;
 use crate::slave::Slave;
-use daq_engine::Ring;
 use std::alloc::Global;
 use tasks::HandFault;
 use xcp_base::limits::MAX_CHANNELS;
@@ -27,13 +26,12 @@ fn code_of(fault: HandFault) -> ErrCode
     }
 }
 
-impl<R: Ring> Slave<R> {
+impl Slave {
     /// Orders the starts of these lists, if they are any, in a measurement that is opened if none
     /// is there.
     pub(crate) fn prepare(&mut self, alloc: Global, lists: ListSet) -> Result<(), ErrCode>
-        ensures ok { OnOk result (Prepares R.Take.TakeEnd most_before self.old self.new lists) }
-        ensures err { IfErr result
-            (StartsInVain R.Take.TakeEnd most_before self.old self.new lists) }
+        ensures ok { OnOk result (Prepares most_before self.old self.new lists) }
+        ensures err { IfErr result (StartsInVain most_before self.old self.new lists) }
         ensures session_stays { self.new.session ≡ self.old.session }
         ensures outbox_stays { self.new.outbox ≡ self.old.outbox }
         ensures acts_stay { self.new.acts ≡ self.old.acts }
@@ -63,9 +61,8 @@ impl<R: Ring> Slave<R> {
     fn start_anew(&mut self, alloc: Global, lists: ListSet) -> Result<(), ErrCode>
         requires idle { Idle self.old.session }
         requires some { HasSome lists }
-        ensures ok { OnOk result (Prepares R.Take.TakeEnd most_before self.old self.new lists) }
-        ensures err { IfErr result
-            (StartsInVain R.Take.TakeEnd most_before self.old self.new lists) }
+        ensures ok { OnOk result (Prepares most_before self.old self.new lists) }
+        ensures err { IfErr result (StartsInVain most_before self.old self.new lists) }
         ensures session_stays { self.new.session ≡ self.old.session }
         ensures outbox_stays { self.new.outbox ≡ self.old.outbox }
         ensures acts_stay { self.new.acts ≡ self.old.acts }
@@ -79,8 +76,8 @@ impl<R: Ring> Slave<R> {
     fn start_new(&mut self, alloc: Global, lists: ListSet) -> Result<(), ErrCode>
         requires idle { Idle self.old.session }
         requires some { HasSome lists }
-        ensures ok { OnOk result (Prepares R.Take.TakeEnd 1 self.old self.new lists) }
-        ensures err { IfErr result (StartsInVain R.Take.TakeEnd 1 self.old self.new lists) }
+        ensures ok { OnOk result (Prepares 1 self.old self.new lists) }
+        ensures err { IfErr result (StartsInVain 1 self.old self.new lists) }
         ensures session_stays { self.new.session ≡ self.old.session }
         ensures outbox_stays { self.new.outbox ≡ self.old.outbox }
         ensures acts_stay { self.new.acts ≡ self.old.acts }
@@ -105,10 +102,8 @@ impl<R: Ring> Slave<R> {
 
     /// Opens a measurement of all lists that are ready.
     fn open_measurement(&mut self, alloc: Global) -> Result<(), ErrCode>
-        ensures ok { OnOk result (OpensAll
-            R.Send.SendEnd R.Send.End.RingEnd R.Take.TakeEnd self.old self.new) }
-        ensures err { IfErr result (OpensNone
-            R.Send.SendEnd R.Send.End.RingEnd R.Take.TakeEnd self.old self.new) }
+        ensures ok { OnOk result (OpensAll self.old self.new) }
+        ensures err { IfErr result (OpensNone self.old self.new) }
     {
         let Ok(plan) = Plan::of(alloc, self.session.store()) else {
             return Err(ErrCode::MemoryOverflow);
@@ -123,10 +118,8 @@ impl<R: Ring> Slave<R> {
     /// Opens the parts of a measurement at all event channels.
     fn open_channels(&mut self, alloc: Global) -> Result<(), HandFault>
         requires plan { self.old.plan ≡ plan_of self.old.session.store }
-        ensures ok { OnOk result (OpensAll
-            R.Send.SendEnd R.Send.End.RingEnd R.Take.TakeEnd self.old self.new) }
-        ensures err { OnErr result (OpensInVain
-            R.Send.SendEnd R.Send.End.RingEnd R.Take.TakeEnd self.old self.new) }
+        ensures ok { OnOk result (OpensAll self.old self.new) }
+        ensures err { OnErr result (OpensInVain self.old self.new) }
     {
         let sets = self.sets_of(ListSet::all());
         let lists = &sets[..self.channels.len()];
@@ -138,7 +131,7 @@ impl<R: Ring> Slave<R> {
 
     /// Orders the starts of these lists, if all find places.
     fn start(&mut self, lists: ListSet) -> Result<(), ErrCode>
-        ensures ok { OnOk result (StartsLists R.Take.TakeEnd self.old self.new lists) }
+        ensures ok { OnOk result (StartsLists self.old self.new lists) }
         ensures busy { IfErr result (IsBusy self.old self.new lists) }
         ensures err { OnErr result (LooksAtAll self.old self.new) }
     {
@@ -155,7 +148,7 @@ impl<R: Ring> Slave<R> {
     /// places, since no order waits there.
     fn start_opened(&mut self, lists: ListSet)
         requires opened { AreJustOut self.old }
-        ensures starts { StartsLists R.Take.TakeEnd self.old self.new lists }
+        ensures starts { StartsLists self.old self.new lists }
     {
         let sets = self.sets_of(lists);
         self.channels.start_checked(&sets[..self.channels.len()]);

@@ -5,10 +5,9 @@ ghost use Rattle.slave.specs.Taking.{least_peek};
 ghost use Rattle.slave_outbox.specs.Outboxes.{bytes_in};
 
 use crate::slave::Slave;
-use daq_engine::Ring;
 use xcp_base::limits::MAX_DTO;
 
-impl<R: Ring> Slave<R> {
+impl Slave {
     /// Whether a master is connected.
     pub fn is_connected(&self) -> bool
         ensures { result ≡ self.now.session.connected }

@@ -7,7 +7,6 @@ ghost use Rattle.slave.specs.Hearing.{may_hear};
 ghost use Rattle.slave.specs.Receiving.{BreaksOff, LosesStream, Receives};
 
 use crate::Slave;
-use daq_engine::Ring;
 use frame_writer::{BadFrame, Fed, FrameReader};
 use std::alloc::Global;
 use std::marker::Model;
@@ -30,7 +29,7 @@ impl Model for MasterStream {
 
 impl MasterStream {
     /// A stream to this slave, of which no byte came.
-    pub fn new<R: Ring>(slave: &Slave<R>) -> MasterStream
+    pub fn new(slave: &Slave) -> MasterStream
         ensures fresh { ReaderStandsAfter result [] [] }
         ensures stays_open { result.closed ≡ false }
         ensures max_cto { result.max_cto ≡ slave.now.session.profile.max_cto }
@@ -56,16 +55,16 @@ impl MasterStream {
     /// Refused if a frame is bad (LEN 0 or over MAX_CTO), as soon as its LEN is taken. The packets
     /// before it were heard, and the slave disconnects: what waits is still sent. From then on
     /// every call is refused, and changes nothing.
-    pub fn receive<R: Ring>(
+    pub fn receive(
         &mut self,
-        slave: &mut Slave<R>,
+        slave: &mut Slave,
         alloc: Global,
         bytes: &[u8],
         clock: u32,
         memory: &[&[u8]],
     ) -> Result<usize, BadFrame>
-        ensures ok { IfOk result (λ n. Receives R.Take.TakeEnd self.old self.new
-            slave.old slave.new (given_by clock memory.now) (take n bytes.now)) }
+        ensures ok { IfOk result (λ n. Receives self.old self.new slave.old slave.new
+            (given_by clock memory.now) (take n bytes.now)) }
         ensures within { IfOk result (λ n. n ≤ length bytes.now) }
         ensures all { IfOk result (λ n. (n ≡ length bytes.now)
             ⊎ (may_hear slave.new ≡ false)) }
@@ -75,8 +74,8 @@ impl MasterStream {
         ensures no_room { self.old.closed ≡ false → may_hear slave.old ≡ false
             → (result ≡ Ok 0) × (self.new ≡ self.old) × (slave.new ≡ slave.old) }
 
-        ensures bad { self.old.closed ≡ false → OnErr result (LosesStream R.Take.TakeEnd
-            self.old self.new slave.old slave.new (given_by clock memory.now) bytes.now) }
+        ensures bad { self.old.closed ≡ false → OnErr result (LosesStream self.old self.new
+            slave.old slave.new (given_by clock memory.now) bytes.now) }
         ensures closed { self.old.closed ≡ true → IsErr result }
         ensures closed_stays { self.old.closed ≡ true
             → (self.new ≡ self.old) × (slave.new ≡ slave.old) }
@@ -95,17 +94,17 @@ impl MasterStream {
 
     /// Takes bytes, and has the slave hear the packet of each frame that they end, as long as a
     /// reply finds room. The slave doesn't disconnect.
-    pub(crate) fn read<R: Ring>(
+    pub(crate) fn read(
         &mut self,
-        slave: &mut Slave<R>,
+        slave: &mut Slave,
         alloc: Global,
         bytes: &[u8],
         clock: u32,
         memory: &[&[u8]],
     ) -> Result<usize, BadFrame>
         requires is_open { self.old.closed ≡ false }
-        ensures ok { IfOk result (λ n. Receives R.Take.TakeEnd self.old self.new
-            slave.old slave.new (given_by clock memory.now) (take n bytes.now)) }
+        ensures ok { IfOk result (λ n. Receives self.old self.new slave.old slave.new
+            (given_by clock memory.now) (take n bytes.now)) }
         ensures within { IfOk result (λ n. n ≤ length bytes.now) }
         ensures all { IfOk result (λ n. (n ≡ length bytes.now)
             ⊎ (may_hear slave.new ≡ false)) }
@@ -114,8 +113,8 @@ impl MasterStream {
         ensures stays_open { OnOk result (self.new.closed ≡ false) }
         ensures no_room { may_hear slave.old ≡ false
             → (result ≡ Ok 0) × (self.new ≡ self.old) × (slave.new ≡ slave.old) }
-        ensures bad { OnErr result (BreaksOff R.Take.TakeEnd
-            self.old self.new slave.old slave.new (given_by clock memory.now) bytes.now) }
+        ensures bad { OnErr result (BreaksOff self.old self.new slave.old slave.new
+            (given_by clock memory.now) bytes.now) }
     {
         let mut at = 0;
         for _ in 0..bytes.len() {
@@ -132,17 +131,17 @@ impl MasterStream {
 
     /// Takes bytes up to the end of the frame that they end, or else all of them, and has the slave
     /// hear the packet of that frame.
-    fn step<R: Ring>(
+    fn step(
         &mut self,
-        slave: &mut Slave<R>,
+        slave: &mut Slave,
         alloc: Global,
         bytes: &[u8],
         clock: u32,
         memory: &[&[u8]],
     ) -> Result<usize, BadFrame>
         requires room { may_hear slave.old ≡ true }
-        ensures ok { IfOk result (λ n. Receives R.Take.TakeEnd self.old self.new
-            slave.old slave.new (given_by clock memory.now) (take n bytes.now)) }
+        ensures ok { IfOk result (λ n. Receives self.old self.new slave.old slave.new
+            (given_by clock memory.now) (take n bytes.now)) }
         ensures within { IfOk result (λ n. n ≤ length bytes.now) }
         ensures some { 0 < length bytes.now → IfOk result (λ n. 0 < n) }
         ensures ends { IfOk result (λ n. (n ≡ length bytes.now) ⊎ (self.new.held ≡ [])) }

@@ -1,12 +1,10 @@
 -- An account with one part more, with some samples that were not sent, and with one measurement
 -- more.
-use Rattle.std.proofs.Common.{◌≡◌, ◌≢◌, ℕ, ◌+◌, ◌^◌, ◌<◌, ◌≤◌, inl, inr, List, [], ◌∷◌, replicate, refl, sym, ap, ◌∙◌, subst, arith, suc, zero}
-use Rattle.std.specs.Prelude.{max, slice_get, Some}
+use Rattle.std.proofs.Common.{◌≡◌, ◌≢◌, ℕ, ◌+◌, ◌^◌, ◌<◌, ◌≤◌, inl, inr, List, [], ◌∷◌, replicate, refl, sym, ◌∙◌, subst, arith, suc, zero}
+use Rattle.std.specs.Prelude.{slice_get, Some}
 use Rattle.std.proofs.lemmas.Bool.Decides.{eqb_tells}
 use Rattle.std.proofs.lemmas.List.Elements.{All-cons, All-nil}
 use Rattle.xcp_base.specs.declared.limits.TheConstants.{MAX_LISTS}
-use Rattle.channel_ring.specs.declared.ends.RingEnd.{Ghosts as EndGhosts}
-use Rattle.channel_ring.specs.declared.ends.TakeEnd.{Ghosts as TakeGhosts}
 use Rattle.daq_engine.specs.declared.report.ListReport.{ListReport}
 use Rattle.slave_outbox.specs.Intakes.{StandsAfter}
 use Rattle.slave_channels.specs.Channels.{FinishedState, HasLine, IsPastOf}
@@ -36,15 +34,15 @@ none-stands lists are = record {
 }
 
 -- a part that came back is an entry
-pub is-entry : {E T F : Type 0} (ring : EndGhosts E) (take : TakeGhosts T F) (f : FinishedState E T) (e : Entry) → IsPastOf ring take f e.past → StandsAfter take f.intake e.deeds → IsEntry e
-is-entry ring take f e is there = record { plans = is.plans; decided = is.stands.decisions; front = is.front e.deeds there }
+pub is-entry : (f : FinishedState) (e : Entry) → IsPastOf f e.past → StandsAfter f.intake e.deeds → IsEntry e
+is-entry f e is there = record { plans = is.plans; decided = is.stands.decisions; front = is.front e.deeds there }
 
 -- the account with the lines of a part, in a measurement that it has begun
-pub adds : {E T F : Type 0} (ring : EndGhosts E) (take : TakeGhosts T F) (f : FinishedState E T) (k n : ℕ) (old new : List Sums) → AddsBelow ring take f k MAX_LISTS old new
-    → (e : Entry) → e.number + (k + 1) ≡ n → IsPastOf ring take f e.past → StandsAfter take f.intake e.deeds
+pub adds : (f : FinishedState) (k n : ℕ) (old new : List Sums) → AddsBelow f k MAX_LISTS old new
+    → (e : Entry) → e.number + (k + 1) ≡ n → IsPastOf f e.past → StandsAfter f.intake e.deeds
     → (entries : List Entry) (unsent : ℕ → ℕ → ℕ) → HasEntries (record { lists = old; end = n }) entries unsent → HasEntries (record { lists = new; end = n }) (e ∷ entries) unsent
-adds ring take f k n old new added e number is there entries unsent has = record {
-  entries_are = All-cons IsEntry e entries (is-entry ring take f e is there) has.entries_are;
+adds f k n old new added e number is there entries unsent has = record {
+  entries_are = All-cons IsEntry e entries (is-entry f e is there) has.entries_are;
   reach = omega (arith, has.reach, number);
   none_ahead = λ m l over below. has.none_ahead m l (omega (arith, over)) below;
   lists = λ l below.
@@ -119,15 +117,15 @@ changed-more n old now new f so_far changes = record {
   others = λ l over. changes.others l (λ same. omega (arith, over, same)) ∙ so_far.others l (omega (arith, over));
 }
 
-module _ {E T F : Type 0} (ring : EndGhosts E) (take : TakeGhosts T F) (f : FinishedState E T) (k : ℕ) where
-  pub added-none : (old : List Sums) → AddsBelow ring take f k 0 old old
+module _ (f : FinishedState) (k : ℕ) where
+  pub added-none : (old : List Sums) → AddsBelow f k 0 old old
   added-none old = record { below = λ l less. absurd (omega (arith, less)); others = λ l over. refl }
 
   -- with the line of the next list
-  pub added-more : (n : ℕ) (old now new : List Sums) (line : ListReport) → AddsBelow ring take f k n old now → HasLine ring take f n line → ChangesBy now new n (changed k (λ t. plus t line)) → AddsBelow ring take f k (n + 1) old new
+  pub added-more : (n : ℕ) (old now new : List Sums) (line : ListReport) → AddsBelow f k n old now → HasLine f n line → ChangesBy now new n (changed k (λ t. plus t line)) → AddsBelow f k (n + 1) old new
   added-more n old now new line added has changes = record {
     below = λ l less. elim (eqb_tells l n) [
-      | inl w ↦ subst (HasAdded ring take f k old new) (sym w.1) (line, has, λ s at. changes.here s (added.others n (omega arith) ∙ at))
+      | inl w ↦ subst (HasAdded f k old new) (sym w.1) (line, has, λ s at. changes.here s (added.others n (omega arith) ∙ at))
       | inr w ↦
           let (its, has_it, gives) = added.below l (omega (arith, less, w.1)) in
           (its, has_it, λ s at. changes.others l w.1 ∙ gives s at)

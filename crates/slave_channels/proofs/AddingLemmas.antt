@@ -1,5 +1,5 @@
 -- Totals with one part more, and with some samples that were not sent.
-use Rattle.std.proofs.Common.{◌≡◌, ℕ, ◌+◌, ◌^◌, ◌≤◌, List, ◌∷◌, sym, ap, ◌∙◌}
+use Rattle.std.proofs.Common.{ℕ, ◌+◌, ◌^◌, ◌≤◌, List, ◌∷◌, sym, ap, ◌∙◌}
 use Rattle.std.specs.List.{sum_by}
 use Rattle.std.proofs.lemmas.List.Sums.{sum_by-cons}
 use Rattle.daq_engine.specs.declared.report.ListReport.{ListReport}

@@ -2,12 +2,13 @@
 use Rattle.std.proofs.Common.{◌≡◌, ℕ, zero, suc, ◌+◌, slice_get, List, [], ◌∷◌, ◌++◌, map, sym, ap, subst, ◌∙◌}
 use Rattle.std.specs.Prelude.{Some, None}
 use Rattle.std.proofs.lemmas.List.{length-append, map-append}
+use Rattle.frame_ring.specs.declared.frame_send.FrameSend.{FrameSend}
 use Rattle.slave_channels.specs.Channels.{ChannelState, no_measurement}
 use Rattle.slave_channels.specs.Calls.{AreNew}
 use Rattle.tasks.specs.Tasks.{TaskState, just_begun}
 
 -- one more, on a line of its own
-pub one-new : {S T : Type 0} (n : ℕ) (xs ys : List (ChannelState S T)) (ts us : List (TaskState S)) (x : ChannelState S T) (t : TaskState S)
+pub one-new : (n : ℕ) (xs ys : List ChannelState) (ts us : List (TaskState FrameSend)) (x : ChannelState) (t : TaskState FrameSend)
     → AreNew n xs ts → x ≡ no_measurement t.ring → t ≡ just_begun x.link.ring → ys ≡ xs ++ x ∷ [] → us ≡ ts ++ t ∷ [] → AreNew (n + 1) ys us
 one-new n xs ys ts us x t so_far channel task more later = record {
   rings = so_far.rings ++ t.ring ∷ [];
@@ -17,7 +18,7 @@ one-new n xs ys ts us x t so_far channel task more later = record {
       ∙ sym (map-append no_measurement so_far.rings (t.ring ∷ []));
   tasks_are =
       later ∙ ap (λ zs. zs ++ t ∷ []) so_far.tasks_are
-      ∙ ap (λ z. map just_begun so_far.rings ++ z ∷ []) (task ∙ ap (λ (c : ChannelState _ _). just_begun c.link.ring) channel)
+      ∙ ap (λ z. map just_begun so_far.rings ++ z ∷ []) (task ∙ ap (λ (c : ChannelState). just_begun c.link.ring) channel)
       ∙ sym (map-append just_begun so_far.rings (t.ring ∷ []));
 }
 

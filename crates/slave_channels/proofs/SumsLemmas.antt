@@ -5,13 +5,13 @@ use Rattle.std.specs.List.{sum_by}
 use Rattle.std.proofs.lemmas.Bool.Decides.{eqb_tells, leb_tells}
 use Rattle.slave_outbox.specs.Accounts.{IsLineOf}
 use Rattle.daq_engine.specs.declared.report.ListReport.{ListReport}
-use Rattle.slave_channels.specs.Accounts.{Agree, AreSums, AreTotals, Entry, accepted_in, accepted_of, before, dropped_in, dropped_of, due_in, due_of, end_of, more_unsent, of_measurement, row, sum_before, written_in, written_of}
-use Rattle.slave_channels.specs.AccountInner.{advanced, all_of, changed, joined, moved, plus, with_row}
+use Rattle.slave_channels.specs.Accounts.{AreSums, AreTotals, Entry, accepted_in, accepted_of, before, dropped_in, dropped_of, due_in, due_of, end_of, more_unsent, of_measurement, row, sum_before, written_in, written_of}
+use Rattle.slave_channels.specs.AccountInner.{advanced, all_of, changed, joined, moved, plus}
 use Rattle.slave_channels.specs.declared.sums.Sums.{Sums}
 use Rattle.slave_channels.specs.declared.totals.Totals.{Totals}
 use Rattle.slave_channels.specs.declared.totals.TheConstants.{NONE}
 use Rattle.slave_channels.proofs.AddingLemmas.{totals-moved, totals-plus}
-use Rattle.slave_channels.proofs.EntryLemmas.{all-before, before-less, before-more, more-here, more-list, more-measurement, none-before, none-of, of-other, of-same, sum-more, sum-next, sum-same}
+use Rattle.slave_channels.proofs.EntryLemmas.{all-before, before-less, before-more, more-here, more-measurement, none-of, of-other, of-same, sum-more, sum-next, sum-same}
 use Rattle.slave_channels.proofs.RowLemmas.{older-beside, older-with, row-beside, row-older, row-with}
 use Rattle.slave_channels.proofs.TotalsLemmas.{agree-mod, agree-plus, agree-same}
 

@@ -1,8 +1,6 @@
 -- What no public clause cites: how totals change.
 use Rattle.std.specs.Prelude.{◌≡◌, ◌≢◌, ℕ, zero, suc, ◌+◌, ◌-◌, ◌%◌, ◌^◌, ◌<◌, ◌≤◌}
 use Rattle.std.specs.Prelude.{List, slice_get, Some}
-use Rattle.channel_ring.specs.declared.ends.RingEnd.{Ghosts as EndGhosts}
-use Rattle.channel_ring.specs.declared.ends.TakeEnd.{Ghosts as TakeGhosts}
 use Rattle.daq_engine.specs.declared.report.ListReport.{ListReport}
 use Rattle.slave_channels.specs.Channels.{FinishedState, HasLine}
 use Rattle.slave_channels.specs.Accounts.{row}
@@ -75,15 +73,14 @@ pub record ChangesBelow (n : ℕ) (old new : List Sums) (f : Sums → Sums) : Ty
       (l : ℕ) → l < n → (s : Sums) → slice_get old l ≡ Some s → slice_get new l ≡ Some (f s)
   pub others : (l : ℕ) → n ≤ l → slice_get new l ≡ slice_get old l
 
-module _ {E T F : Type 0} (ring : EndGhosts E) (take : TakeGhosts T F) where
-  -- a line of list l of what came back was added, in the measurement with k behind it
-  abbrev pub HasAdded : FinishedState E T → ℕ → List Sums → List Sums → ℕ → Type 0
-  HasAdded f k old new l =
-      (line : ListReport) × HasLine ring take f l line
-      × ((s : Sums) → slice_get old l ≡ Some s
-      → slice_get new l ≡ Some (changed k (λ t. plus t line) s))
+-- a line of list l of what came back was added, in the measurement with k behind it
+abbrev pub HasAdded : FinishedState → ℕ → List Sums → List Sums → ℕ → Type 0
+HasAdded f k old new l =
+    (line : ListReport) × HasLine f l line
+    × ((s : Sums) → slice_get old l ≡ Some s
+    → slice_get new l ≡ Some (changed k (λ t. plus t line) s))
 
-  -- of each list below n, and the others are as they were
-  pub record AddsBelow (f : FinishedState E T) (k n : ℕ) (old new : List Sums) : Type 0 where
-    pub below : (l : ℕ) → l < n → HasAdded f k old new l
-    pub others : (l : ℕ) → n ≤ l → slice_get new l ≡ slice_get old l
+-- of each list below n, and the others are as they were
+pub record AddsBelow (f : FinishedState) (k n : ℕ) (old new : List Sums) : Type 0 where
+  pub below : (l : ℕ) → l < n → HasAdded f k old new l
+  pub others : (l : ℕ) → n ≤ l → slice_get new l ≡ slice_get old l

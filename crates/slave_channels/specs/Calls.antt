@@ -5,9 +5,7 @@ use Rattle.std.specs.Prelude.{IfSome, IsNone, IsSome, slice_get}
 use Rattle.xcp_base.specs.Lists.{has_list}
 use Rattle.xcp_base.specs.declared.limits.TheConstants.{MAX_LISTS}
 use Rattle.channel_ring.specs.Ends.{RingName}
-use Rattle.channel_ring.specs.declared.ends.SendEnd.{Ghosts as SendGhosts}
-use Rattle.channel_ring.specs.declared.ends.RingEnd.{Ghosts as EndGhosts}
-use Rattle.channel_ring.specs.declared.ends.TakeEnd.{Ghosts as TakeGhosts}
+use Rattle.frame_ring.specs.declared.frame_send.FrameSend.{FrameSend}
 use Rattle.slave_outbox.specs.declared.step.Step.{Step}
 use Rattle.daq_store.specs.Standing.{StoreState}
 use Rattle.slave_outbox.specs.Outboxes.{OutboxState}
@@ -25,17 +23,16 @@ abbrev pub HasSome : ℕ → Type 0
 HasSome lists = (l : ℕ) × (l < MAX_LISTS) × (has_list lists l ≡ true)
 
 -- the names of the lines of event channels with their tasks
-abbrev pub rings_of : {S T : Type 0} → List (ChannelState S T) → List RingName
-rings_of channels = map (λ (ch : ChannelState _ _). ch.link.ring) channels
+abbrev pub rings_of : List ChannelState → List RingName
+rings_of channels = map (λ (ch : ChannelState). ch.link.ring) channels
 
 -- the line of event channel c with its task has this name
-abbrev pub IsRingAt : {S T : Type 0} → ℕ → List (ChannelState S T) → RingName → Type 0
+abbrev pub IsRingAt : ℕ → List ChannelState → RingName → Type 0
 IsRingAt c channels ring =
-    (ch : ChannelState _ _) → slice_get channels c ≡ Some ch → ch.link.ring ≡ ring
+    (ch : ChannelState) → slice_get channels c ≡ Some ch → ch.link.ring ≡ ring
 
 -- so many event channels and their tasks are new, each on a line with its own
-pub record AreNew {S T : Type 0} (count : ℕ) (channels : List (ChannelState S T))
-    (tasks : List (TaskState S))
+pub record AreNew (count : ℕ) (channels : List ChannelState) (tasks : List (TaskState FrameSend))
     : Type 0 where
   -- fixed by `channels_are`
   pub rings : List RingName
@@ -43,165 +40,155 @@ pub record AreNew {S T : Type 0} (count : ℕ) (channels : List (ChannelState S 
   pub channels_are : channels ≡ map no_measurement rings
   pub tasks_are : tasks ≡ map just_begun rings
 
-module _ {S T : Type 0} where
-  -- the measurement that is there ended, if one is
-  pub record Ends (a b : ChannelState S T) : Type 0 where
-    pub none : takes_orders a.link.newer ≡ false → b ≡ a
-    pub ends : takes_orders a.link.newer ≡ true → EndsNewest a.link b.link
-    pub parts : b ≡ record a { link = b.link }
+-- the measurement that is there ended, if one is
+pub record Ends (a b : ChannelState) : Type 0 where
+  pub none : takes_orders a.link.newer ≡ false → b ≡ a
+  pub ends : takes_orders a.link.newer ≡ true → EndsNewest a.link b.link
+  pub parts : b ≡ record a { link = b.link }
 
-  -- a look at the orders of the newest
-  pub record Looks (a b : ChannelState S T) : Type 0 where
-    pub newer : LooksAtNewest a.link.newer b.link.newer
-    pub rest : b ≡ record a { link = record a.link { newer = b.link.newer } }
+-- a look at the orders of the newest
+pub record Looks (a b : ChannelState) : Type 0 where
+  pub newer : LooksAtNewest a.link.newer b.link.newer
+  pub rest : b ≡ record a { link = record a.link { newer = b.link.newer } }
 
-  -- starts of the lists at each event channel find places, if they are any
-  abbrev pub CanStartAll : List ℕ → List (ChannelState S T) → Type 0
-  CanStartAll lists now =
-      (c set : ℕ) (b : ChannelState S T)
-      → slice_get lists c ≡ Some set → slice_get now c ≡ Some b → set ≢ 0
-      → CanStart b.link.newer (has_list set)
+-- starts of the lists at each event channel find places, if they are any
+abbrev pub CanStartAll : List ℕ → List ChannelState → Type 0
+CanStartAll lists now =
+    (c set : ℕ) (b : ChannelState)
+    → slice_get lists c ≡ Some set → slice_get now c ≡ Some b → set ≢ 0
+    → CanStart b.link.newer (has_list set)
 
-  -- at an event channel with some lists their starts find no places
-  pub record HasNoPlaces (lists : List ℕ) (now : List (ChannelState S T)) : Type 0 where
-    pub channel : ℕ
-    pub set : ℕ
-    pub state : ChannelState S T
-    pub lists_are : slice_get lists channel ≡ Some set
-    pub some : set ≢ 0
-    pub state_is : slice_get now channel ≡ Some state
-    pub cannot : ¬ CanStart state.link.newer (has_list set)
+-- at an event channel with some lists their starts find no places
+pub record HasNoPlaces (lists : List ℕ) (now : List ChannelState) : Type 0 where
+  pub channel : ℕ
+  pub set : ℕ
+  pub state : ChannelState
+  pub lists_are : slice_get lists channel ≡ Some set
+  pub some : set ≢ 0
+  pub state_is : slice_get now channel ≡ Some state
+  pub cannot : ¬ CanStart state.link.newer (has_list set)
 
-  -- at each event channel with some lists there is room for one more part
-  abbrev pub HaveRoom : List ℕ → List (ChannelState S T) → Type 0
-  HaveRoom lists now =
-      (c set : ℕ) (ch : ChannelState S T)
-      → slice_get lists c ≡ Some set → slice_get now c ≡ Some ch → set ≢ 0
-      → keeps_two ch ≡ false
+-- at each event channel with some lists there is room for one more part
+abbrev pub HaveRoom : List ℕ → List ChannelState → Type 0
+HaveRoom lists now =
+    (c set : ℕ) (ch : ChannelState)
+    → slice_get lists c ≡ Some set → slice_get now c ≡ Some ch → set ≢ 0
+    → keeps_two ch ≡ false
 
-  -- at an event channel with some lists there is none
-  pub record HasFull (lists : List ℕ) (now : List (ChannelState S T)) : Type 0 where
-    pub channel : ℕ
-    pub set : ℕ
-    pub state : ChannelState S T
-    pub lists_are : slice_get lists channel ≡ Some set
-    pub some : HasSome set
-    pub state_is : slice_get now channel ≡ Some state
-    pub full : keeps_two state ≡ true
+-- at an event channel with some lists there is none
+pub record HasFull (lists : List ℕ) (now : List ChannelState) : Type 0 where
+  pub channel : ℕ
+  pub set : ℕ
+  pub state : ChannelState
+  pub lists_are : slice_get lists channel ≡ Some set
+  pub some : HasSome set
+  pub state_is : slice_get now channel ≡ Some state
+  pub full : keeps_two state ≡ true
 
-  -- this is the number of the last measurement with a part at event channel c, if it is kept
-  abbrev pub IsNewestAt : ℕ → List (ChannelState S T) → Option ℕ → Type 0
-  IsNewestAt c now answer =
-      (ch : ChannelState S T) → slice_get now c ≡ Some ch → answer ≡ number_of ch.newer
+-- this is the number of the last measurement with a part at event channel c, if it is kept
+abbrev pub IsNewestAt : ℕ → List ChannelState → Option ℕ → Type 0
+IsNewestAt c now answer =
+    (ch : ChannelState) → slice_get now c ≡ Some ch → answer ≡ number_of ch.newer
 
-  -- no part of a measurement is kept at any event channel; and one is
-  abbrev pub KeepsNone : List (ChannelState S T) → Type 0
-  KeepsNone now =
-      (c : ℕ) (ch : ChannelState S T) → slice_get now c ≡ Some ch → keeps_part ch ≡ false
+-- no part of a measurement is kept at any event channel; and one is
+abbrev pub KeepsNone : List ChannelState → Type 0
+KeepsNone now =
+    (c : ℕ) (ch : ChannelState) → slice_get now c ≡ Some ch → keeps_part ch ≡ false
 
-  abbrev pub KeepsOne : List (ChannelState S T) → Type 0
-  KeepsOne now =
-      (c : ℕ) × ((ch : ChannelState S T) × (slice_get now c ≡ Some ch) × (keeps_part ch ≡ true))
+abbrev pub KeepsOne : List ChannelState → Type 0
+KeepsOne now =
+    (c : ℕ) × ((ch : ChannelState) × (slice_get now c ≡ Some ch) × (keeps_part ch ≡ true))
 
-  -- no part is kept of a measurement with a number from `from` to below `to`; and one is
-  abbrev pub KeepsNoneWithin : ℕ → ℕ → List (ChannelState S T) → Type 0
-  KeepsNoneWithin from to now =
-      (c : ℕ) (ch : ChannelState S T) → slice_get now c ≡ Some ch → keeps_within from to ch ≡ false
+-- no part is kept of a measurement with a number from `from` to below `to`; and one is
+abbrev pub KeepsNoneWithin : ℕ → ℕ → List ChannelState → Type 0
+KeepsNoneWithin from to now =
+    (c : ℕ) (ch : ChannelState) → slice_get now c ≡ Some ch → keeps_within from to ch ≡ false
 
-  abbrev pub KeepsOneWithin : ℕ → ℕ → List (ChannelState S T) → Type 0
-  KeepsOneWithin from to now =
-      (c : ℕ) × ((ch : ChannelState S T) × (slice_get now c ≡ Some ch)
-      × (keeps_within from to ch ≡ true))
+abbrev pub KeepsOneWithin : ℕ → ℕ → List ChannelState → Type 0
+KeepsOneWithin from to now =
+    (c : ℕ)
+    × ((ch : ChannelState) × (slice_get now c ≡ Some ch) × (keeps_within from to ch ≡ true))
 
-  -- no part of measurement m is kept at event channel c
-  abbrev pub KeepsNoneOf : ℕ → ℕ → List (ChannelState S T) → Type 0
-  KeepsNoneOf m c now =
-      (ch : ChannelState S T) → slice_get now c ≡ Some ch
-      → (number_of ch.newer ≢ Some m) × (number_of ch.older ≢ Some m)
+-- no part of measurement m is kept at event channel c
+abbrev pub KeepsNoneOf : ℕ → ℕ → List ChannelState → Type 0
+KeepsNoneOf m c now =
+    (ch : ChannelState) → slice_get now c ≡ Some ch
+    → (number_of ch.newer ≢ Some m) × (number_of ch.older ≢ Some m)
 
-module _ {S T F : Type 0} (take : TakeGhosts T F) where
-  -- the starts of these lists were ordered
-  abbrev pub Starts : ℕ → ChannelState S T → ChannelState S T → Type 0
-  Starts set a b =
-      OrdersAll take a b
-      (starts_sent (has_list set) MAX_LISTS) (starts_noted (has_list set) MAX_LISTS)
+-- the starts of these lists were ordered
+abbrev pub Starts : ℕ → ChannelState → ChannelState → Type 0
+Starts set a b =
+    OrdersAll a b (starts_sent (has_list set) MAX_LISTS) (starts_noted (has_list set) MAX_LISTS)
 
-  -- the starts of the lists of event channel c were ordered there
-  abbrev pub StartsAt : List ℕ → ℕ → ChannelState S T → ChannelState S T → Type 0
-  StartsAt lists c a b = (set : ℕ) → slice_get lists c ≡ Some set → Starts set a b
+-- the starts of the lists of event channel c were ordered there
+abbrev pub StartsAt : List ℕ → ℕ → ChannelState → ChannelState → Type 0
+StartsAt lists c a b = (set : ℕ) → slice_get lists c ≡ Some set → Starts set a b
 
-  -- the stops of those of the lists that run were ordered
-  abbrev pub StopsAll : ℕ → ChannelState S T → ChannelState S T → Type 0
-  StopsAll lists a b =
-      OrdersAll take a b
-      (stops_sent (λ l. has_list lists l && is_running a.link.newer l) MAX_LISTS)
-      (stops_noted (λ l. has_list lists l && is_running a.link.newer l) MAX_LISTS)
+-- the stops of those of the lists that run were ordered
+abbrev pub StopsAll : ℕ → ChannelState → ChannelState → Type 0
+StopsAll lists a b =
+    OrdersAll a b
+    (stops_sent (λ l. has_list lists l && is_running a.link.newer l) MAX_LISTS)
+    (stops_noted (λ l. has_list lists l && is_running a.link.newer l) MAX_LISTS)
 
-  -- what became of the next item of the newest measurement's ring; the rest is as it was
-  pub record TakesFromNewer (c : ℕ) (o p : OutboxState) (step : Step) (a b : ChannelState S T)
-      : Type 0 where
-    pub takes : TakesOf take c a.newer b.newer o p step
-    pub rest : b ≡ record a { newer = b.newer }
+-- what became of the next item of the newest measurement's ring; the rest is as it was
+pub record TakesFromNewer (c : ℕ) (o p : OutboxState) (step : Step) (a b : ChannelState)
+    : Type 0 where
+  pub takes : TakesOf c a.newer b.newer o p step
+  pub rest : b ≡ record a { newer = b.newer }
 
-  -- the same of the measurement before it
-  pub record TakesFromOlder (c : ℕ) (o p : OutboxState) (step : Step) (a b : ChannelState S T)
-      : Type 0 where
-    pub takes : TakesOf take c a.older b.older o p step
-    pub rest : b ≡ record a { older = b.older }
+-- the same of the measurement before it
+pub record TakesFromOlder (c : ℕ) (o p : OutboxState) (step : Step) (a b : ChannelState)
+    : Type 0 where
+  pub takes : TakesOf c a.older b.older o p step
+  pub rest : b ≡ record a { older = b.older }
 
-module _ {S E T F : Type 0} (send : SendGhosts S E) (ring : EndGhosts E)
-    (take : TakeGhosts T F) where
-  -- a part of a measurement was opened, if there are lists of it: a number that is not zero has one
-  abbrev pub OpensIfAny :
-      StoreState → ℕ → ℕ → ℕ → ℕ → ChannelState S T → ChannelState S T → Type 0
-  OpensIfAny store number c cap set a b =
-      (set ≡ 0 → b ≡ a) × (set ≢ 0 → Opens send ring take a b store c cap number)
-      × (set ≢ 0 → HasSome set)
+-- a part of a measurement was opened, if there are lists of it: a number that is not zero has one
+abbrev pub OpensIfAny : StoreState → ℕ → ℕ → ℕ → ℕ → ChannelState → ChannelState → Type 0
+OpensIfAny store number c cap set a b =
+    (set ≡ 0 → b ≡ a) × (set ≢ 0 → Opens a b store c cap number) × (set ≢ 0 → HasSome set)
 
-  module _ (store : StoreState) (number : ℕ) (caps lists : List ℕ) where
-    -- so at event channel c, whose ring has caps[c] places and whose lists are lists[c]
-    abbrev pub OpensAt : ℕ → ChannelState S T → ChannelState S T → Type 0
-    OpensAt c a b =
-        (cap set : ℕ) → slice_get caps c ≡ Some cap → slice_get lists c ≡ Some set
-        → OpensIfAny store number c cap set a b
+module _ (store : StoreState) (number : ℕ) (caps lists : List ℕ) where
+  -- so at event channel c, whose ring has caps[c] bytes and whose lists are lists[c]
+  abbrev pub OpensAt : ℕ → ChannelState → ChannelState → Type 0
+  OpensAt c a b =
+      (cap set : ℕ) → slice_get caps c ≡ Some cap → slice_get lists c ≡ Some set
+      → OpensIfAny store number c cap set a b
 
-    -- nothing changed there; or it has lists of the measurement, which was opened and ended again
-    abbrev pub OpenedAndEnded : ℕ → ChannelState S T → ChannelState S T → Type 0
-    OpenedAndEnded c a b =
-        (cap set : ℕ) → slice_get caps c ≡ Some cap → slice_get lists c ≡ Some set
-        → (b ≡ a)
-        ⊎ ((set ≢ 0) × ((m : ChannelState S T)
-        × Opens send ring take a m store c cap number × Ends m b))
+  -- nothing changed there; or it has lists of the measurement, which was opened and ended again
+  abbrev pub OpenedAndEnded : ℕ → ChannelState → ChannelState → Type 0
+  OpenedAndEnded c a b =
+      (cap set : ℕ) → slice_get caps c ≡ Some cap → slice_get lists c ≡ Some set
+      → (b ≡ a)
+      ⊎ ((set ≢ 0) × ((m : ChannelState) × Opens a m store c cap number × Ends m b))
 
-  -- what came back of the measurement before the last; the rest is as it was
-  pub record GivesBackOlder (answer : Option (FinishedState E T)) (a b : ChannelState S T)
-      : Type 0 where
-    pub back : IfSome answer (IsBackOf send ring take a.link b.link a.link.older a.older)
-    pub some : IsSome answer → (b.link.older ≡ None) × (b.older ≡ None)
-    pub none :
-        IsNone answer
-        → (b.older ≡ a.older) × NoneIsBack a.link b.link false a.link.older b.link.older
-    pub link :
-        b.link
-        ≡ record a.link { came = b.link.came; coming = b.link.coming; older = b.link.older }
-    pub newer : b.newer ≡ a.newer
+-- what came back of the measurement before the last; the rest is as it was
+pub record GivesBackOlder (answer : Option FinishedState) (a b : ChannelState) : Type 0 where
+  pub back : IfSome answer (IsBackOf a.link b.link a.link.older a.older)
+  pub some : IsSome answer → (b.link.older ≡ None) × (b.older ≡ None)
+  pub none :
+      IsNone answer
+      → (b.older ≡ a.older) × NoneIsBack a.link b.link false a.link.older b.link.older
+  pub link :
+      b.link
+      ≡ record a.link { came = b.link.came; coming = b.link.coming; older = b.link.older }
+  pub newer : b.newer ≡ a.newer
 
-  -- the same of the last
-  pub record GivesBackNewer (answer : Option (FinishedState E T)) (a b : ChannelState S T)
-      : Type 0 where
-    pub back : IfSome answer (IsBackOf send ring take a.link b.link a.link.newer a.newer)
-    pub some : IsSome answer → (b.link.newer ≡ None) × (b.newer ≡ None)
-    pub none :
-        IsNone answer
-        → (b.newer ≡ a.newer)
-        × NoneIsBack a.link b.link (is_out a.link.older) a.link.newer b.link.newer
-    pub link :
-        b.link
-        ≡ record a.link { came = b.link.came; coming = b.link.coming; newer = b.link.newer }
-    pub older : b.older ≡ a.older
+-- the same of the last
+pub record GivesBackNewer (answer : Option FinishedState) (a b : ChannelState) : Type 0 where
+  pub back : IfSome answer (IsBackOf a.link b.link a.link.newer a.newer)
+  pub some : IsSome answer → (b.link.newer ≡ None) × (b.newer ≡ None)
+  pub none :
+      IsNone answer
+      → (b.newer ≡ a.newer)
+      × NoneIsBack a.link b.link (is_out a.link.older) a.link.newer b.link.newer
+  pub link :
+      b.link
+      ≡ record a.link { came = b.link.came; coming = b.link.coming; newer = b.link.newer }
+  pub older : b.older ≡ a.older
 
 -- all that the task of an event channel gave back was looked at: each of it is known to come
-pub record IsBeside {S T : Type 0} (end : TaskEndState S) (a b : ChannelState S T) : Type 0 where
+pub record IsBeside (end : TaskEndState FrameSend) (a b : ChannelState) : Type 0 where
   pub all : b.link.came ++ b.link.coming ≡ end.gave
   pub no_more :
       is_out a.link.older ≡ false → is_out a.link.newer ≡ false → b.link.coming ≡ []

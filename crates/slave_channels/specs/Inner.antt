@@ -15,21 +15,20 @@ module _ {A : Type 0} where
         → R k a b
     pub rest : (k : ℕ) → n ≤ k → slice_get now k ≡ slice_get old k
 
-module _ {S T : Type 0} where
-  -- the measurement ended at event channel c if lists[c] isn't empty; else nothing changed
-  abbrev pub EndsAt : List ℕ → ℕ → ChannelState S T → ChannelState S T → Type 0
-  EndsAt lists c a b =
-      (set : ℕ) → slice_get lists c ≡ Some set
-      → (set ≡ 0 → b ≡ a) × (set ≢ 0 → Ends a b)
+-- the measurement ended at event channel c if lists[c] isn't empty; else nothing changed
+abbrev pub EndsAt : List ℕ → ℕ → ChannelState → ChannelState → Type 0
+EndsAt lists c a b =
+    (set : ℕ) → slice_get lists c ≡ Some set
+    → (set ≡ 0 → b ≡ a) × (set ≢ 0 → Ends a b)
 
-  -- `HaveRoom`, so far: at each of the first n event channels whose lists[c] isn't empty
-  abbrev pub HaveRoomBelow : List ℕ → List (ChannelState S T) → ℕ → Type 0
-  HaveRoomBelow lists now n =
-      (c set : ℕ) (ch : ChannelState S T) → c < n
-      → slice_get lists c ≡ Some set → slice_get now c ≡ Some ch → set ≢ 0
-      → keeps_two ch ≡ false
+-- `HaveRoom`, so far: at each of the first n event channels whose lists[c] isn't empty
+abbrev pub HaveRoomBelow : List ℕ → List ChannelState → ℕ → Type 0
+HaveRoomBelow lists now n =
+    (c set : ℕ) (ch : ChannelState) → c < n
+    → slice_get lists c ≡ Some set → slice_get now c ≡ Some ch → set ≢ 0
+    → keeps_two ch ≡ false
 
-  -- none of the first n event channels passes this test
-  abbrev pub KeepNone : (ChannelState S T → Bool) → List (ChannelState S T) → ℕ → Type 0
-  KeepNone test now n =
-      (c : ℕ) (ch : ChannelState S T) → c < n → slice_get now c ≡ Some ch → test ch ≡ false
+-- none of the first n event channels passes this test
+abbrev pub KeepNone : (ChannelState → Bool) → List ChannelState → ℕ → Type 0
+KeepNone test now n =
+    (c : ℕ) (ch : ChannelState) → c < n → slice_get now c ≡ Some ch → test ch ≡ false

@@ -1,6 +1,7 @@
 pub mod Each
 pub mod Inner
 pub mod Calls
+pub mod Codes
 pub mod Channels
 pub mod Ordering
 pub mod PartInner

@@ -2,7 +2,7 @@
 use Rattle.std.specs.Prelude.{◌≡◌, ℕ, zero, suc, ◌+◌, ◌≤◌, Bool, ◌&&◌, not, nat_lt}
 use Rattle.std.specs.Prelude.{if◌then◌else◌, List, [], ◌∷◌, ◌++◌, length, Option, Some, None}
 use Rattle.xcp_base.specs.declared.limits.TheConstants.{MAX_TAKEN}
-use Rattle.channel_ring.specs.declared.ends.TakeEnd.{Ghosts as TakeGhosts}
+use Rattle.frame_ring.specs.declared.frame_send.FrameSend.{FrameSend}
 use Rattle.slave_outbox.specs.Deeds.{Deed, Started, Stopped}
 use Rattle.slave_outbox.specs.Intakes.{StandsAfter}
 use Rattle.tasks.specs.Links.{AwayState}
@@ -39,29 +39,26 @@ from_on n set k = set k && not (nat_lt k n)
 
 -- these orders were sent to the newest, behind those before
 abbrev pub SendsAll :
-    {S : Type 0} → Option (AwayState S) → Option (AwayState S) → List Order → Type 0
+    Option (AwayState FrameSend) → Option (AwayState FrameSend) → List Order → Type 0
 SendsAll None None os = os ≡ []
 SendsAll (Some a) (Some b) os =
     (b.sampler ≡ a.sampler) × (b.orders ≡ a.orders ++ os) × (b.ended ≡ a.ended)
 SendsAll _ _ os = ⊥
 
-module _ {T F : Type 0} (take : TakeGhosts T F) where
-  -- whatever the intake of the newest part stood after, it stands after that and these deeds, the
-  -- newest first
-  abbrev pub GoesOnBy :
-      Option (ShareState T) → Option (ShareState T) → List Deed → Type 0
-  GoesOnBy None None ds = ds ≡ []
-  GoesOnBy (Some s) (Some t) ds =
-      (t.number ≡ s.number)
-      × ((deeds : List Deed) → length deeds + length ds ≤ MAX_TAKEN
-      → StandsAfter take s.intake deeds → StandsAfter take t.intake (ds ++ deeds))
-      × (t.opened ≡ s.opened)
-  GoesOnBy _ _ ds = ⊥
+-- whatever the intake of the newest part stood after, it stands after that and these deeds, the
+-- newest first
+abbrev pub GoesOnBy : Option ShareState → Option ShareState → List Deed → Type 0
+GoesOnBy None None ds = ds ≡ []
+GoesOnBy (Some s) (Some t) ds =
+    (t.number ≡ s.number)
+    × ((deeds : List Deed) → length deeds + length ds ≤ MAX_TAKEN
+    → StandsAfter s.intake deeds → StandsAfter t.intake (ds ++ deeds))
+    × (t.opened ≡ s.opened)
+GoesOnBy _ _ ds = ⊥
 
-  -- these orders went to the task, and the intake was told of them
-  pub record OrdersAll {S : Type 0} (a b : ChannelState S T) (os : List Order) (ds : List Deed)
-      : Type 0 where
-    pub sends : SendsAll a.link.newer b.link.newer os
-    pub link : b.link ≡ record a.link { newer = b.link.newer }
-    pub older : b.older ≡ a.older
-    pub newer : GoesOnBy a.newer b.newer ds
+-- these orders went to the task, and the intake was told of them
+pub record OrdersAll (a b : ChannelState) (os : List Order) (ds : List Deed) : Type 0 where
+  pub sends : SendsAll a.link.newer b.link.newer os
+  pub link : b.link ≡ record a.link { newer = b.link.newer }
+  pub older : b.older ≡ a.older
+  pub newer : GoesOnBy a.newer b.newer ds

@@ -9,7 +9,7 @@ ghost use Rattle.slave_channels.specs.AccountInner.{changed, moved, plus};
 use crate::Finished;
 use crate::sums::{LAST, NO_SUMS, Sums};
 use crate::totals::Totals;
-use daq_engine::{ListReport, Ring};
+use daq_engine::ListReport;
 use std::marker::Model;
 use xcp_base::limits::MAX_LISTS;
 use xcp_base::{ListId, PerList};
@@ -42,8 +42,8 @@ impl Model for Account {
 
 /// The line of a list in a part that came back; of zeros, if its event channel doesn't have the
 /// list.
-fn line_of<R: Ring>(finished: &Finished<R>, l: ListId) -> ListReport
-    ensures line { HasLine R.Send.End.RingEnd R.Take.TakeEnd finished.now l result }
+fn line_of(finished: &Finished, l: ListId) -> ListReport
+    ensures line { HasLine finished.now l result }
 {
     match finished.line(l) {
         Some(line) => line,
@@ -108,9 +108,8 @@ fn advance_lists(lists: &mut PerList<Sums>)
 }
 
 /// Adds the lines of a part that came back, in the measurement with so many behind it.
-fn add_lines<R: Ring>(lists: &mut PerList<Sums>, behind: u64, finished: &Finished<R>)
-    ensures adds { AddsBelow R.Send.End.RingEnd R.Take.TakeEnd finished.now behind MAX_LISTS
-        lists.old lists.new }
+fn add_lines(lists: &mut PerList<Sums>, behind: u64, finished: &Finished)
+    ensures adds { AddsBelow finished.now behind MAX_LISTS lists.old lists.new }
 {
     for l in 0..MAX_LISTS {
         let list = ListId::at(l);
@@ -139,11 +138,11 @@ impl Account {
     }
 
     /// Adds a part of a measurement that came back.
-    pub fn add<R: Ring>(&mut self, finished: &Finished<R>)
+    pub fn add(&mut self, finished: &Finished)
         ensures adds { (entry : Entry) → entry.number ≡ finished.now.number
             → entry.number + 1 < 2 ^ 64
-            → IsPastOf R.Send.End.RingEnd R.Take.TakeEnd finished.now entry.past
-            → StandsAfter R.Take.TakeEnd finished.now.intake entry.deeds
+            → IsPastOf finished.now entry.past
+            → StandsAfter finished.now.intake entry.deeds
             → (entries : List Entry) (unsent : ℕ → ℕ → ℕ)
             → AccountStandsAfter self.old entries unsent
             → AccountStandsAfter self.new (entry ∷ entries) unsent }

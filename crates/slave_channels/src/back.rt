@@ -7,10 +7,10 @@ ghost use Rattle.slave_channels.specs.Each.{IsOnlyAt};
 
 use crate::Finished;
 use crate::channels::Channels;
-use daq_engine::Ring;
+use frame_ring::FrameSend;
 use tasks::TaskEnd;
 
-impl<R: Ring> Channels<R> {
+impl Channels {
     /// Whether a part of a measurement is kept at an event channel: what is left of its sampler was
     /// not taken back.
     pub fn has_parts(&self) -> bool
@@ -49,7 +49,7 @@ impl<R: Ring> Channels<R> {
 
     /// Looks at all that the task of event channel `c` gave back so far, which was finished. From
     /// then on each of it is known to come.
-    pub fn beside(&mut self, c: usize, end: &mut TaskEnd<R::Send>)
+    pub fn beside(&mut self, c: usize, end: &mut TaskEnd<FrameSend>)
         requires channel { c < length self.old }
         requires one_line { IsRingAt c self.old end.old.ring }
         ensures beside { IsOnlyAt (IsBeside end.old) c self.old self.new }
@@ -59,19 +59,17 @@ impl<R: Ring> Channels<R> {
     }
 
     /// What came back of the measurement before the last at event channel `c`.
-    pub fn take_older(&mut self, c: usize) -> Option<Finished<R>>
+    pub fn take_older(&mut self, c: usize) -> Option<Finished>
         requires channel { c < length self.old }
-        ensures back { IsOnlyAt (GivesBackOlder
-            R.Send.SendEnd R.Send.End.RingEnd R.Take.TakeEnd result) c self.old self.new }
+        ensures back { IsOnlyAt (GivesBackOlder result) c self.old self.new }
     {
         self.all[c].take_older()
     }
 
     /// What came back of the last measurement at event channel `c`.
-    pub fn take_newer(&mut self, c: usize) -> Option<Finished<R>>
+    pub fn take_newer(&mut self, c: usize) -> Option<Finished>
         requires channel { c < length self.old }
-        ensures back { IsOnlyAt (GivesBackNewer
-            R.Send.SendEnd R.Send.End.RingEnd R.Take.TakeEnd result) c self.old self.new }
+        ensures back { IsOnlyAt (GivesBackNewer result) c self.old self.new }
     {
         self.all[c].take_newer()
     }

@@ -2,10 +2,10 @@
 //! taken back.
 use crate::finished::Finished;
 use crate::opened_with::OpenedWith;
+use crate::ring_ends::open_ends;
 use crate::share::Share;
-use channel_ring::{ItemTake, SendEnd, TakeEnd};
-use daq_engine::{Ring, open_channel};
 use daq_store::Store;
+use frame_ring::{FrameLeft, FrameSend};
 use hand_over::keep_newest;
 use sampler::SamplerEnd;
 use slave_outbox::{Intake, Outbox, Step};
@@ -20,22 +20,23 @@ use xcp_base::{ChannelId, ListId, ListSet};
 /// At most two measurements are out: one that the channel's task holds, and the newest. Nothing
 /// here waits for the task.
 #[derive(Drop)]
-pub struct Channel<R: Ring> {
-    link: TaskLink<R::Send>,
-    pub(crate) older: Option<Share<R::Take>>,
-    pub(crate) newer: Option<Share<R::Take>>,
+pub struct Channel {
+    link: TaskLink<FrameSend>,
+    pub(crate) older: Option<Share>,
+    pub(crate) newer: Option<Share>,
 }
 
-impl<R: Ring> Model for Channel<R> {
+impl Model for Channel {
     ghost use Rattle.slave_channels.specs.Channels.{ChannelState, Fits};
+    ghost use Rattle.slave_channels.specs.Codes.{end_codes};
 
-    ghost Value = { ChannelState R.Send R.Take };
+    ghost Value = { ChannelState };
+
+    ghost coded = { Prim.hlevel end_codes };
 
     ghost view = { λ c. record { link = c.link; older = c.older; newer = c.newer } };
 
-    ghost invariant = { λ c.
-        Fits R.Send.SendEnd R.Send.End.RingEnd R.Take.TakeEnd c.link.older c.older
-        × Fits R.Send.SendEnd R.Send.End.RingEnd R.Take.TakeEnd c.link.newer c.newer };
+    ghost invariant = { λ c. Fits c.link.older c.older × Fits c.link.newer c.newer };
 }
 
 ghost use Rattle.std.specs.Prelude.{◌≡◌, ℕ, ◌<◌, ◌++◌, Bool, [], None, Some, true, false};
@@ -47,7 +48,7 @@ ghost use Rattle.slave_channels.specs.Channels.{NewestGoesOn, is_within};
 ghost use Rattle.slave_channels.specs.PartInner.{ComesOf, EndStays, FinishesAs};
 
 /// Whether a part is of a measurement with a number from `from` to below `to`.
-fn is_within<T: TakeEnd>(part: &Option<Share<T>>, from: u64, to: u64) -> bool
+fn is_within(part: &Option<Share>, from: u64, to: u64) -> bool
     ensures { result ≡ is_within from to part.now }
 {
     match part {
@@ -57,8 +58,8 @@ fn is_within<T: TakeEnd>(part: &Option<Share<T>>, from: u64, to: u64) -> bool
 }
 
 /// The intake of the newest part is told of a start.
-fn note_start<T: ItemTake>(newer: &mut Option<Share<T>>, l: ListId)
-    ensures goes_on { IsSome newer.old → NewestGoesOn T.TakeEnd newer.old newer.new (Started l) }
+fn note_start(newer: &mut Option<Share>, l: ListId)
+    ensures goes_on { IsSome newer.old → NewestGoesOn newer.old newer.new (Started l) }
     ensures end_stays { EndStays newer.old newer.new }
 {
     if let Some(share) = newer {
@@ -67,8 +68,8 @@ fn note_start<T: ItemTake>(newer: &mut Option<Share<T>>, l: ListId)
 }
 
 /// The intake of the newest part is told of a stop.
-fn note_stop<T: ItemTake>(newer: &mut Option<Share<T>>, l: ListId)
-    ensures goes_on { IsSome newer.old → NewestGoesOn T.TakeEnd newer.old newer.new (Stopped l) }
+fn note_stop(newer: &mut Option<Share>, l: ListId)
+    ensures goes_on { IsSome newer.old → NewestGoesOn newer.old newer.new (Stopped l) }
     ensures end_stays { EndStays newer.old newer.new }
 {
     if let Some(share) = newer {
@@ -77,12 +78,9 @@ fn note_stop<T: ItemTake>(newer: &mut Option<Share<T>>, l: ListId)
 }
 
 /// A part that has ended, with what is left of its sampler.
-fn finish<R: Ring>(
-    part: &mut Option<Share<R::Take>>,
-    end: SamplerEnd<<R::Send as SendEnd>::End>,
-) -> Option<Finished<R>>
-    requires came { ComesOf R.Send.End.RingEnd R.Take.TakeEnd part.old end }
-    ensures some { IfSome result (FinishesAs R.Send.End.RingEnd R.Take.TakeEnd part.old end) }
+fn finish(part: &mut Option<Share>, end: SamplerEnd<FrameLeft>) -> Option<Finished>
+    requires came { ComesOf part.old end }
+    ensures some { IfSome result (FinishesAs part.old end) }
     ensures always { IsSome result }
     ensures gone { part.new ≡ None }
 {
@@ -101,7 +99,7 @@ fn finish<R: Ring>(
     })
 }
 
-impl<R: Ring> Channel<R> {
+impl Channel {
     ghost use Rattle.slave_channels.specs.Channels.{Opens, Orders, IsBackOf, keeps_part, keeps_two};
     ghost use Rattle.slave_channels.specs.Channels.{keeps_within};
     ghost use Rattle.slave_channels.specs.Channels.{no_measurement, number_of};
@@ -111,7 +109,7 @@ impl<R: Ring> Channel<R> {
     ghost use Rattle.channel_ring.specs.declared.order.Order.TheVariants.{Start, Stop};
 
     /// The slave's side of an event channel, and its task. No measurement is there.
-    pub fn new(alloc: Global) -> Result<(Channel<R>, Task<R::Send>), AllocError>
+    pub fn new(alloc: Global) -> Result<(Channel, Task<FrameSend>), AllocError>
         ensures channel { IfOk result (λ made. made.0 ≡ no_measurement made.1.ring) }
         ensures task { IfOk result (λ made. made.1 ≡ just_begun made.0.link.ring) }
     {
@@ -124,7 +122,7 @@ impl<R: Ring> Channel<R> {
         Ok((channel, task))
     }
 
-    /// Opens the channel's part of a measurement, with a ring of its own of `cap` places, and hands
+    /// Opens the channel's part of a measurement, with a ring of its own of `cap` bytes, and hands
     /// its sampler out to the task. It has the DAQ lists of the channel `c` that are ready in the
     /// store.
     ///
@@ -138,11 +136,10 @@ impl<R: Ring> Channel<R> {
         cap: usize,
         number: u64,
     ) -> Result<(), HandFault>
-        ensures ok { OnOk result (Opens R.Send.SendEnd R.Send.End.RingEnd R.Take.TakeEnd
-            self.old self.new store.now c cap number) }
+        ensures ok { OnOk result (Opens self.old self.new store.now c cap number) }
         ensures err { OnErr result (self.new ≡ self.old) }
     {
-        let Ok((sampler, take)) = open_channel::<R>(alloc, store, c, cap) else {
+        let Ok((sampler, take)) = open_ends(alloc, store, c, cap) else {
             return Err(HandFault::Memory);
         };
         if let Err((fault, _)) = self.link.hand_out(alloc, sampler) {
@@ -215,7 +212,7 @@ impl<R: Ring> Channel<R> {
     pub fn start(&mut self, l: ListId)
         requires checked { (lists : ℕ → Bool) × (lists l ≡ true)
             × CanStart self.old.link.newer lists }
-        ensures orders { Orders R.Take.TakeEnd self.old self.new (Start l) (Started l) }
+        ensures orders { Orders self.old self.new (Start l) (Started l) }
         ensures others { (lists : ℕ → Bool) → lists l ≡ true → CanStart self.old.link.newer lists
             → CanStart self.new.link.newer (without l lists) }
     {
@@ -227,7 +224,7 @@ impl<R: Ring> Channel<R> {
     /// on no sample of the list is written until its next start.
     pub fn stop(&mut self, l: ListId)
         requires runs { is_running self.old.link.newer l ≡ true }
-        ensures orders { Orders R.Take.TakeEnd self.old self.new (Stop l) (Stopped l) }
+        ensures orders { Orders self.old self.new (Stop l) (Stopped l) }
     {
         self.link.stop(l);
         note_stop(&mut self.newer, l);
@@ -246,7 +243,7 @@ impl<R: Ring> Channel<R> {
 
     /// Looks at all that the task gave back so far, which was finished. From then on each of it is
     /// known to come.
-    pub fn beside(&mut self, end: &mut TaskEnd<R::Send>)
+    pub fn beside(&mut self, end: &mut TaskEnd<FrameSend>)
         requires one_line { end.old.ring ≡ self.old.link.ring }
         ensures all { self.new.link.came ++ self.new.link.coming ≡ end.old.gave }
         ensures no_more { is_out self.old.link.older ≡ false → is_out self.old.link.newer ≡ false
@@ -261,9 +258,9 @@ impl<R: Ring> Channel<R> {
     }
 
     /// What came back of the measurement before the last.
-    pub fn take_older(&mut self) -> Option<Finished<R>>
-        ensures back { IfSome result (IsBackOf R.Send.SendEnd R.Send.End.RingEnd R.Take.TakeEnd
-            self.old.link self.new.link self.old.link.older self.old.older) }
+    pub fn take_older(&mut self) -> Option<Finished>
+        ensures back { IfSome result
+            (IsBackOf self.old.link self.new.link self.old.link.older self.old.older) }
         ensures some { IsSome result → (self.new.link.older ≡ None) × (self.new.older ≡ None) }
         ensures none { IsNone result → (self.new.older ≡ self.old.older)
             × NoneIsBack self.old.link self.new.link false
@@ -281,9 +278,9 @@ impl<R: Ring> Channel<R> {
     }
 
     /// What came back of the last measurement.
-    pub fn take_newer(&mut self) -> Option<Finished<R>>
-        ensures back { IfSome result (IsBackOf R.Send.SendEnd R.Send.End.RingEnd R.Take.TakeEnd
-            self.old.link self.new.link self.old.link.newer self.old.newer) }
+    pub fn take_newer(&mut self) -> Option<Finished>
+        ensures back { IfSome result
+            (IsBackOf self.old.link self.new.link self.old.link.newer self.old.newer) }
         ensures some { IsSome result → (self.new.link.newer ≡ None) × (self.new.newer ≡ None) }
         ensures none { IsNone result → (self.new.newer ≡ self.old.newer)
             × NoneIsBack self.old.link self.new.link (is_out self.old.link.older)

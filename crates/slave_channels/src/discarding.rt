@@ -6,17 +6,16 @@ ghost use Rattle.slave_channels.specs.Calls.{KeepsNoneOf};
 ghost use Rattle.slave_channels.specs.Each.{IsOnlyAt};
 
 use crate::channels::Channels;
-use daq_engine::Ring;
 use xcp_base::ListId;
 
-impl<R: Ring> Channels<R> {
+impl Channels {
     /// A sample of this measurement and DAQ list that was laid out for event channel `c` is thrown
     /// away, and isn't sent: the measurement's part there counts it as left. Returns whether that
     /// part is kept; if it isn't, nothing changes.
     pub fn unsent(&mut self, c: u8, number: u64, l: ListId) -> bool
         ensures there { result ≡ true → c < length self.old }
-        ensures told { result ≡ true → IsOnlyAt
-            (GoesOnThere R.Take.TakeEnd number (Unsent l)) c self.old self.new }
+        ensures told { result ≡ true
+            → IsOnlyAt (GoesOnThere number (Unsent l)) c self.old self.new }
         ensures none { result ≡ false → KeepsNoneOf number c self.old }
         ensures stays { result ≡ false → self.new ≡ self.old }
     {

@@ -4,21 +4,20 @@ ghost use Rattle.slave_channels.specs.Each.{IsEach};
 
 use crate::Channel;
 use crate::channels::Channels;
-use daq_engine::Ring;
 use xcp_base::ListSet;
 
 /// Ends the measurement that is there at an event channel, if one is.
-pub(crate) fn end_one<R: Ring>(channel: &mut Channel<R>)
+pub(crate) fn end_one(channel: &mut Channel)
     ensures ends { Ends channel.old channel.new }
 {
     channel.end();
 }
 
-impl<R: Ring> Channels<R> {
+impl Channels {
     /// Orders, at each event channel, the stops of those of these DAQ lists that run. They always
     /// find places, and take no memory.
     pub fn stop_all(&mut self, lists: ListSet)
-        ensures orders { IsEach (λ c. StopsAll R.Take.TakeEnd lists) self.old self.new }
+        ensures orders { IsEach (λ c. StopsAll lists) self.old self.new }
     {
         for c in 0..self.all.len() {
             self.all[c].stop_all(lists);

@@ -1,7 +1,7 @@
 //! A part of a measurement that came back, and the line of each of its DAQ lists.
 use crate::opened_with::OpenedWith;
-use channel_ring::{SendEnd, TakeEnd};
-use daq_engine::{ListReport, Ring};
+use daq_engine::ListReport;
+use frame_ring::FrameLeft;
 use sampler::SamplerEnd;
 use slave_outbox::Intake;
 use std::marker::Model;
@@ -10,17 +10,20 @@ use xcp_base::ListId;
 /// An event channel's part of a measurement that has ended, with what is left of its sampler: what
 /// became of the samples of each of its DAQ lists.
 #[derive(Drop)]
-pub struct Finished<R: Ring> {
+pub struct Finished {
     pub(crate) number: u64,
     pub(crate) opened: OpenedWith,
-    pub(crate) end: SamplerEnd<<R::Send as SendEnd>::End>,
-    pub(crate) intake: Intake<R::Take>,
+    pub(crate) end: SamplerEnd<FrameLeft>,
+    pub(crate) intake: Intake,
 }
 
-impl<R: Ring> Model for Finished<R> {
+impl Model for Finished {
     ghost use Rattle.slave_channels.specs.Channels.{FinishedState, IsFinished};
+    ghost use Rattle.slave_channels.specs.Codes.{end_codes};
 
-    ghost Value = { FinishedState R.Send.End R.Take };
+    ghost Value = { FinishedState };
+
+    ghost coded = { Prim.hlevel end_codes };
 
     ghost view = { λ f. record {
       number = f.number;
@@ -29,11 +32,11 @@ impl<R: Ring> Model for Finished<R> {
       intake = f.intake;
     } };
 
-    ghost invariant = { λ f. IsFinished R.Send.End.RingEnd R.Take.TakeEnd
+    ghost invariant = { λ f. IsFinished
         (record { number = f.number; opened = f.opened; end = f.end; intake = f.intake }) };
 }
 
-impl<R: Ring> Finished<R> {
+impl Finished {
     ghost use Rattle.std.specs.Prelude.{◌≡◌, IfSome, IsNone, None};
     ghost use Rattle.sampler.specs.State.{counts_at};
     ghost use Rattle.slave_outbox.specs.Accounts.{no_line};
@@ -43,7 +46,7 @@ impl<R: Ring> Finished<R> {
     pub fn number(&self) -> u64
         ensures number { result ≡ self.now.number }
         // what is left of the sampler says which past it came to
-        ensures finished { IsFinished R.Send.End.RingEnd R.Take.TakeEnd self.now }
+        ensures finished { IsFinished self.now }
     {
         self.number
     }
@@ -53,10 +56,8 @@ impl<R: Ring> Finished<R> {
     pub fn line(&self, l: ListId) -> Option<ListReport>
         ensures none { IsNone result → counts_at self.now.end l ≡ None }
         // none of its samples was due then, so its line would be of zeros
-        ensures nothing { IsNone result
-            → HasLine R.Send.End.RingEnd R.Take.TakeEnd self.now l (no_line l) }
-        ensures line { IfSome result
-            (HasLine R.Send.End.RingEnd R.Take.TakeEnd self.now l) }
+        ensures nothing { IsNone result → HasLine self.now l (no_line l) }
+        ensures line { IfSome result (HasLine self.now l) }
     {
         self.intake.line(&self.end, l)
     }

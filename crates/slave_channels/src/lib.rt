@@ -15,6 +15,7 @@ mod opening;
 mod ordering;
 mod part_discarding;
 mod part_taking;
+mod ring_ends;
 mod share;
 mod starting;
 mod sums;

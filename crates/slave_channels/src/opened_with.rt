@@ -5,7 +5,7 @@ use std::snapshot::Snapshot;
 use xcp_base::ChannelId;
 
 /// What an event channel's part of a measurement was opened with: the store as it was then, the
-/// event channel, and the capacity of its ring. Contracts alone see it: it has no bytes.
+/// event channel, and the capacity of its ring in bytes. Contracts alone see it: it has no bytes.
 #[derive(Drop)]
 pub struct OpenedWith {
     store: Snapshot<Store>,

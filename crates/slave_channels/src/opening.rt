@@ -9,15 +9,14 @@ ghost use Rattle.slave_channels.specs.Inner.{EndsAt, IsFront};
 use crate::Channel;
 use crate::channels::Channels;
 use crate::ending::end_one;
-use daq_engine::Ring;
 use daq_store::Store;
 use std::alloc::Global;
 use tasks::HandFault;
 use xcp_base::{ChannelId, ListSet};
 
 /// Opens an event channel's part of a measurement, if it has lists of it.
-fn open_one<R: Ring>(
-    channel: &mut Channel<R>,
+fn open_one(
+    channel: &mut Channel,
     alloc: Global,
     store: &Store,
     c: ChannelId,
@@ -25,8 +24,7 @@ fn open_one<R: Ring>(
     set: ListSet,
     number: u64,
 ) -> Result<(), HandFault>
-    ensures ok { OnOk result (OpensIfAny R.Send.SendEnd R.Send.End.RingEnd R.Take.TakeEnd
-        store.now number c cap set channel.old channel.new) }
+    ensures ok { OnOk result (OpensIfAny store.now number c cap set channel.old channel.new) }
     ensures err { OnErr result (channel.new ≡ channel.old) }
 {
     if set.is_empty() {
@@ -37,7 +35,7 @@ fn open_one<R: Ring>(
 
 /// Whether there is room at an event channel for a part of one more measurement, if it has lists of
 /// it.
-fn can_open_one<R: Ring>(channel: &Channel<R>, set: ListSet) -> bool
+fn can_open_one(channel: &Channel, set: ListSet) -> bool
     ensures yes { result ≡ true → set ≢ 0 → keeps_two channel.now ≡ false }
     ensures some { result ≡ false → HasSome set }
     ensures no { result ≡ false → keeps_two channel.now ≡ true }
@@ -49,7 +47,7 @@ fn can_open_one<R: Ring>(channel: &Channel<R>, set: ListSet) -> bool
 }
 
 /// Ends an event channel's part of a measurement, if it has lists of it.
-fn end_if_any<R: Ring>(channel: &mut Channel<R>, set: ListSet)
+fn end_if_any(channel: &mut Channel, set: ListSet)
     ensures none { set ≡ 0 → channel.new ≡ channel.old }
     ensures ends { set ≢ 0 → Ends channel.old channel.new }
 {
@@ -58,7 +56,7 @@ fn end_if_any<R: Ring>(channel: &mut Channel<R>, set: ListSet)
     }
 }
 
-impl<R: Ring> Channels<R> {
+impl Channels {
     /// Whether there is room for one more measurement: at each event channel `c` whose set
     /// `lists[c]` of lists is not empty, no more than one part is kept.
     pub fn can_open(&self, lists: &[ListSet]) -> bool
@@ -75,7 +73,7 @@ impl<R: Ring> Channels<R> {
     }
 
     /// Opens a measurement over a store: its part at each event channel `c` whose set `lists[c]` of
-    /// lists is not empty, with a ring of `caps[c]` places.
+    /// lists is not empty, with a ring of `caps[c]` bytes.
     ///
     /// Refused as `Channel::open` refuses the first of them that can't be opened. Then those before
     /// it have ended again, and the others are as they were.
@@ -89,12 +87,10 @@ impl<R: Ring> Channels<R> {
     ) -> Result<(), HandFault>
         requires caps { length caps.now ≡ length self.old }
         requires lists { length lists.now ≡ length self.old }
-        ensures ok { OnOk result (IsEach (OpensAt
-            R.Send.SendEnd R.Send.End.RingEnd R.Take.TakeEnd
-            store.now number caps.now lists.now) self.old self.new) }
-        ensures err { OnErr result (IsEach (OpenedAndEnded
-            R.Send.SendEnd R.Send.End.RingEnd R.Take.TakeEnd
-            store.now number caps.now lists.now) self.old self.new) }
+        ensures ok { OnOk result
+            (IsEach (OpensAt store.now number caps.now lists.now) self.old self.new) }
+        ensures err { OnErr result
+            (IsEach (OpenedAndEnded store.now number caps.now lists.now) self.old self.new) }
     {
         for c in 0..self.len() {
             if let Err(fault) = self.open_at(alloc, store, c, caps[c], lists[c], number) {
@@ -116,9 +112,8 @@ impl<R: Ring> Channels<R> {
         number: u64,
     ) -> Result<(), HandFault>
         requires channel { c < length self.old }
-        ensures ok { OnOk result (IsOnlyAt (OpensIfAny
-            R.Send.SendEnd R.Send.End.RingEnd R.Take.TakeEnd
-            store.now number c cap set) c self.old self.new) }
+        ensures ok { OnOk result
+            (IsOnlyAt (OpensIfAny store.now number c cap set) c self.old self.new) }
         ensures err { OnErr result (self.new ≡ self.old) }
     {
         let channel = &mut self.all[c];

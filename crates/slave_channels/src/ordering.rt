@@ -9,15 +9,14 @@ ghost use Rattle.slave_channels.specs.Ordering.{OrdersAll, from_on, one_if};
 ghost use Rattle.slave_channels.specs.Ordering.{starts_noted, starts_sent, stops_noted, stops_sent};
 
 use crate::channel::Channel;
-use daq_engine::Ring;
 use xcp_base::limits::MAX_LISTS;
 use xcp_base::{ListId, ListSet};
 
-impl<R: Ring> Channel<R> {
+impl Channel {
     /// Orders the starts of these DAQ lists, which were checked by `can_start`. It takes no memory.
     pub fn start_checked(&mut self, lists: ListSet)
         requires checked { CanStart self.old.link.newer (has_list lists) }
-        ensures orders { OrdersAll R.Take.TakeEnd self.old self.new
+        ensures orders { OrdersAll self.old self.new
             (starts_sent (has_list lists) MAX_LISTS) (starts_noted (has_list lists) MAX_LISTS) }
     {
         for l in 0..MAX_LISTS {
@@ -28,7 +27,7 @@ impl<R: Ring> Channel<R> {
     /// Orders the stops of those of these DAQ lists that run. They always find places, and take no
     /// memory.
     pub fn stop_all(&mut self, lists: ListSet)
-        ensures orders { OrdersAll R.Take.TakeEnd self.old self.new
+        ensures orders { OrdersAll self.old self.new
             (stops_sent (λ l. has_list lists l && is_running self.old.link.newer l) MAX_LISTS)
             (stops_noted (λ l. has_list lists l && is_running self.old.link.newer l) MAX_LISTS) }
     {
@@ -42,7 +41,7 @@ impl<R: Ring> Channel<R> {
     /// Orders the start of a list, if it is among these; those behind it can still be started.
     fn start_one(&mut self, lists: ListSet, l: ListId)
         requires checked { CanStart self.old.link.newer (from_on l (has_list lists)) }
-        ensures orders { OrdersAll R.Take.TakeEnd self.old self.new
+        ensures orders { OrdersAll self.old self.new
             (one_if (has_list lists l) (Start l)) (one_if (has_list lists l) (Started l)) }
         ensures behind { CanStart self.new.link.newer (from_on (l + 1) (has_list lists)) }
     {
@@ -54,7 +53,7 @@ impl<R: Ring> Channel<R> {
     /// Orders the stop of a list, if it is wanted.
     fn stop_one(&mut self, wanted: bool, l: ListId)
         requires runs { wanted ≡ true → is_running self.old.link.newer l ≡ true }
-        ensures orders { OrdersAll R.Take.TakeEnd self.old self.new
+        ensures orders { OrdersAll self.old self.new
             (one_if wanted (Stop l)) (one_if wanted (Stopped l)) }
         ensures others { (k : ℕ) → k ≢ l
             → is_running self.new.link.newer k ≡ is_running self.old.link.newer k }

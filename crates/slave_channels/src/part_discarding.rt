@@ -6,14 +6,12 @@ ghost use Rattle.slave_channels.specs.PartInner.{EndStays};
 
 use crate::channel::Channel;
 use crate::share::Share;
-use channel_ring::{ItemTake, TakeEnd};
-use daq_engine::Ring;
 use xcp_base::ListId;
 
 /// Tells a part that a sample of it was thrown away, if it is of this measurement, and returns
 /// whether it is.
-fn tell<T: ItemTake>(part: &mut Option<Share<T>>, number: u64, l: ListId) -> bool
-    ensures told { result ≡ true → PartGoesOn T.TakeEnd number (Unsent l) part.old part.new }
+fn tell(part: &mut Option<Share>, number: u64, l: ListId) -> bool
+    ensures told { result ≡ true → PartGoesOn number (Unsent l) part.old part.new }
     ensures other { result ≡ false → number_of part.old ≢ Some number }
     ensures stays { result ≡ false → part.new ≡ part.old }
     ensures end_stays { EndStays part.old part.new }
@@ -28,13 +26,12 @@ fn tell<T: ItemTake>(part: &mut Option<Share<T>>, number: u64, l: ListId) -> boo
     true
 }
 
-impl<R: Ring> Channel<R> {
+impl Channel {
     /// A sample of this measurement and DAQ list that was laid out is thrown away, and isn't sent:
     /// the measurement's part here counts it as left. Returns whether that part is kept; if it
     /// isn't, nothing changes.
     pub fn unsent(&mut self, number: u64, l: ListId) -> bool
-        ensures told { result ≡ true
-            → GoesOnThere R.Take.TakeEnd number (Unsent l) self.old self.new }
+        ensures told { result ≡ true → GoesOnThere number (Unsent l) self.old self.new }
         ensures not_newer { result ≡ false → number_of self.old.newer ≢ Some number }
         ensures not_older { result ≡ false → number_of self.old.older ≢ Some number }
         ensures stays { result ≡ false → self.new ≡ self.old }

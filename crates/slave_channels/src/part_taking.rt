@@ -4,14 +4,12 @@ ghost use Rattle.slave_channels.specs.Channels.{TakesOf};
 
 use crate::channel::Channel;
 use crate::share::Share;
-use channel_ring::{ItemTake, TakeEnd};
-use daq_engine::Ring;
 use slave_outbox::{Outbox, Step};
 use xcp_base::ChannelId;
 
 /// Takes the next item of a part's ring, if the part is there.
-fn take_of<T: ItemTake>(part: &mut Option<Share<T>>, c: ChannelId, outbox: &mut Outbox) -> Step
-    ensures takes { TakesOf T.TakeEnd c part.old part.new outbox.old outbox.new result }
+fn take_of(part: &mut Option<Share>, c: ChannelId, outbox: &mut Outbox) -> Step
+    ensures takes { TakesOf c part.old part.new outbox.old outbox.new result }
     ensures shown_stays { outbox.new.shown ≡ outbox.old.shown }
 {
     match part {
@@ -20,12 +18,11 @@ fn take_of<T: ItemTake>(part: &mut Option<Share<T>>, c: ChannelId, outbox: &mut 
     }
 }
 
-impl<R: Ring> Channel<R> {
+impl Channel {
     /// Takes the next item of the newest measurement's ring, if one is there, and lays a sample of
     /// a DAQ list that runs out, as one of event channel `c`. It takes no memory.
     pub fn take(&mut self, c: ChannelId, outbox: &mut Outbox) -> Step
-        ensures takes { TakesOf R.Take.TakeEnd c self.old.newer self.new.newer
-            outbox.old outbox.new result }
+        ensures takes { TakesOf c self.old.newer self.new.newer outbox.old outbox.new result }
         ensures rest_stays { self.new ≡ record self.old { newer = self.new.newer } }
         ensures shown_stays { outbox.new.shown ≡ outbox.old.shown }
     {
@@ -35,8 +32,7 @@ impl<R: Ring> Channel<R> {
     /// The same of the measurement before it. It has ended, so none of its lists runs and no sample
     /// is laid out; but while its ring is full its task can't carry out a stop.
     pub fn take_from_older(&mut self, c: ChannelId, outbox: &mut Outbox) -> Step
-        ensures takes { TakesOf R.Take.TakeEnd c self.old.older self.new.older
-            outbox.old outbox.new result }
+        ensures takes { TakesOf c self.old.older self.new.older outbox.old outbox.new result }
         ensures rest_stays { self.new ≡ record self.old { older = self.new.older } }
         ensures shown_stays { outbox.new.shown ≡ outbox.old.shown }
     {

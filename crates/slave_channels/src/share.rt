@@ -6,16 +6,16 @@ use std::marker::Model;
 /// An event channel's part of a measurement: the measurement's number, what the part was opened
 /// with, and the intake of the channel's ring.
 #[derive(Drop)]
-pub struct Share<T> {
+pub struct Share {
     pub(crate) number: u64,
     pub(crate) opened: OpenedWith,
-    pub(crate) intake: Intake<T>,
+    pub(crate) intake: Intake,
 }
 
-impl<T> Model for Share<T> {
+impl Model for Share {
     ghost use Rattle.slave_channels.specs.Channels.{ShareState};
 
-    ghost Value = { ShareState T };
+    ghost Value = { ShareState };
 
     ghost view = { λ s. record { number = s.number; opened = s.opened; intake = s.intake } };
 }

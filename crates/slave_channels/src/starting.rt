@@ -7,11 +7,10 @@ ghost use Rattle.slave_channels.specs.Each.{IsEach};
 
 use crate::Channel;
 use crate::channels::Channels;
-use daq_engine::Ring;
 use xcp_base::ListSet;
 
 /// Whether starts of these lists find places at an event channel, if they are any.
-fn can_start_one<R: Ring>(channel: &mut Channel<R>, set: ListSet) -> bool
+fn can_start_one(channel: &mut Channel, set: ListSet) -> bool
     ensures yes { result ≡ true → set ≢ 0 → CanStart channel.new.link.newer (has_list set) }
     ensures some { result ≡ false → set ≢ 0 }
     ensures no { result ≡ false → ¬ CanStart channel.new.link.newer (has_list set) }
@@ -24,16 +23,16 @@ fn can_start_one<R: Ring>(channel: &mut Channel<R>, set: ListSet) -> bool
 }
 
 /// Orders the starts of these lists at an event channel, if they are any.
-fn start_one<R: Ring>(channel: &mut Channel<R>, set: ListSet)
+fn start_one(channel: &mut Channel, set: ListSet)
     requires checked { set ≢ 0 → CanStart channel.old.link.newer (has_list set) }
-    ensures starts { Starts R.Take.TakeEnd set channel.old channel.new }
+    ensures starts { Starts set channel.old channel.new }
 {
     if !set.is_empty() {
         channel.start_checked(set);
     }
 }
 
-impl<R: Ring> Channels<R> {
+impl Channels {
     /// Whether starts of the lists `lists[c]` find places at the task of each event channel `c`,
     /// with the stops of all lists that then run and an order to end. An empty set asks for none.
     pub fn can_start(&mut self, lists: &[ListSet]) -> bool
@@ -54,7 +53,7 @@ impl<R: Ring> Channels<R> {
     pub fn start_checked(&mut self, lists: &[ListSet])
         requires lists { length lists.now ≡ length self.old }
         requires checked { CanStartAll lists.now self.old }
-        ensures starts { IsEach (StartsAt R.Take.TakeEnd lists.now) self.old self.new }
+        ensures starts { IsEach (StartsAt lists.now) self.old self.new }
     {
         for c in 0..self.all.len() {
             start_one(&mut self.all[c], lists[c]);

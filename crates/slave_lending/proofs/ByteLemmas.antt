@@ -3,9 +3,7 @@ use Rattle.session.specs.Past.{Given}
 use Rattle.std.proofs.Common.{◌≡◌, ◌⊎◌, ℕ, ◌≤◌, Bool, true, false, List, [], ◌++◌, length, inl, inr, refl, ap, ◌∙◌, subst}
 use Rattle.std.specs.Prelude.{min, take as first, Result, Ok, Err, IfOk, IsErr, OnErr, OnOk}
 use Rattle.std.proofs.lemmas.Bool.{false≢true}
-use Rattle.channel_ring.specs.declared.ends.SendEnd.{Ghosts as SendGhosts}
-use Rattle.channel_ring.specs.declared.ends.RingEnd.{Ghosts as EndGhosts}
-use Rattle.channel_ring.specs.declared.ends.TakeEnd.{Ghosts as TakeGhosts}
+use Rattle.frame_ring.specs.declared.frame_send.FrameSend.{FrameSend}
 use Rattle.slave_outbox.specs.Outboxes.{has_waiting}
 use Rattle.frame_writer.specs.Reading.{ReaderStandsAfter, ReaderState}
 use Rattle.slave_channels.specs.Accounts.{AccountState}
@@ -28,25 +26,25 @@ is-bool : (b : Bool) → (b ≡ true) ⊎ (b ≡ false)
 is-bool true = inl refl
 is-bool false = inr refl
 
-module _ {S T F : Type 0} (take : TakeGhosts T F) (slave : SlaveState S T) (stream : ReaderState) (tasks : List (SlotState S))
-    (a : LendingSlaveState S T) (is : with_slots slave stream tasks ≡ a) where
-  pub hears-bytes : (b : SlaveState S T) (given : Given) (bytes : List ℕ) (n : ℕ) → HearsDatagram take slave b given bytes n → n ≤ length bytes
-      → (n ≡ length bytes) ⊎ (may_hear b ≡ false) → HearsBytes take a (with_slots b stream tasks) given bytes n
+module _ (slave : SlaveState) (stream : ReaderState) (tasks : List SlotState) (a : LendingSlaveState)
+    (is : with_slots slave stream tasks ≡ a) where
+  pub hears-bytes : (b : SlaveState) (given : Given) (bytes : List ℕ) (n : ℕ) → HearsDatagram slave b given bytes n → n ≤ length bytes
+      → (n ≡ length bytes) ⊎ (may_hear b ≡ false) → HearsBytes a (with_slots b stream tasks) given bytes n
   hears-bytes b given bytes n hears within all =
-      subst (λ (x : LendingSlaveState S T). HearsBytes take x (with_slots b stream tasks) given bytes n) is
+      subst (λ (x : LendingSlaveState). HearsBytes x (with_slots b stream tasks) given bytes n) is
       (record { hears = hears; within = within; all = all; stream = refl; tasks = refl })
 
-  pub hangs-up : (b : SlaveState S T) (new : ReaderState) → GoesBy take slave b (discarding (has_waiting slave.outbox) ++ losing slave.session.connected)
+  pub hangs-up : (b : SlaveState) (new : ReaderState) → GoesBy slave b (discarding (has_waiting slave.outbox) ++ losing slave.session.connected)
       → b.outbox.waits ≡ [] → b.outbox.shown ≡ 0 → b.acts ≡ slave.acts → b.next ≡ slave.next → b.session.profile ≡ slave.session.profile
-      → ReaderStandsAfter new [] [] → new.closed ≡ false → new.max_cto ≡ b.session.profile.max_cto → HangsUp take a (with_slots b new tasks)
+      → ReaderStandsAfter new [] [] → new.closed ≡ false → new.max_cto ≡ b.session.profile.max_cto → HangsUp a (with_slots b new tasks)
   hangs-up b new goes none none_shown counted next profile fresh open_still by_profile =
-      subst (λ (x : LendingSlaveState S T). HangsUp take x (with_slots b new tasks)) is
+      subst (λ (x : LendingSlaveState). HangsUp x (with_slots b new tasks)) is
       (record { hangs_up = goes; none_waits = none; none_shown = none_shown; counted = counted; next = next; profile = profile; fresh = fresh; is_open = open_still; max_cto = by_profile; tasks = refl })
 
-  pub sends : (b : SlaveState S T) → GoesBy take slave b (sending (min slave.outbox.shown (length slave.outbox.waits)))
-      → b.outbox.shown ≡ 0 → b.acts ≡ slave.acts → b.next ≡ slave.next → b.session.profile ≡ slave.session.profile → Sends take a (with_slots b stream tasks)
+  pub sends : (b : SlaveState) → GoesBy slave b (sending (min slave.outbox.shown (length slave.outbox.waits)))
+      → b.outbox.shown ≡ 0 → b.acts ≡ slave.acts → b.next ≡ slave.next → b.session.profile ≡ slave.session.profile → Sends a (with_slots b stream tasks)
   sends b goes none counted next profile =
-      subst (λ (x : LendingSlaveState S T). Sends take x (with_slots b stream tasks)) is
+      subst (λ (x : LendingSlaveState). Sends x (with_slots b stream tasks)) is
       (record { sends = goes; none_shown = none; counted = counted; next = next; profile = profile; stream = refl; tasks = refl })
 
   not-closed : (stream.closed ≡ true → ⊥) → stream.closed ≡ false
@@ -56,18 +54,18 @@ module _ {S T F : Type 0} (take : TakeGhosts T F) (slave : SlaveState S T) (stre
         | inr off ↦ off
       ]
 
-  module _ {E : Type 0} (new : ReaderState) (b : SlaveState S T) (given : Given) (bytes : List ℕ) where
+  module _ {E : Type 0} (new : ReaderState) (b : SlaveState) (given : Given) (bytes : List ℕ) where
     same-count : (n : ℕ) → ◌≡◌ {A = Result ℕ E} (Ok n) (Ok 0) → n ≡ 0
     same-count n same = cc
 
-    pub takes-if : (result : Result ℕ E) → IfOk result (λ n. Receives take stream new slave b given (first n bytes)) → IfOk result (λ n. n ≤ length bytes)
+    pub takes-if : (result : Result ℕ E) → IfOk result (λ n. Receives stream new slave b given (first n bytes)) → IfOk result (λ n. n ≤ length bytes)
         → IfOk result (λ n. (n ≡ length bytes) ⊎ (may_hear b ≡ false)) → IfOk result (λ n. (n ≡ length bytes) ⊎ ((n ≡ 0) ⊎ (new.held ≡ [])))
         → OnOk result (new.closed ≡ false) → (stream.closed ≡ false → may_hear slave ≡ false → (result ≡ Ok 0) × (new ≡ stream) × (b ≡ slave))
-        → (stream.closed ≡ true → IsErr result) → IfOk result (TakesBytes take a (with_slots b new tasks) given bytes)
+        → (stream.closed ≡ true → IsErr result) → IfOk result (TakesBytes a (with_slots b new tasks) given bytes)
     takes-if (Err e) receives within all ends still none closed = tt
     takes-if (Ok n) receives within all ends still none closed =
         let was = not-closed (λ on. false≢true (closed on)) in
-        subst (λ (x : LendingSlaveState S T). TakesBytes take x (with_slots b new tasks) given bytes n) is
+        subst (λ (x : LendingSlaveState). TakesBytes x (with_slots b new tasks) given bytes n) is
         (record {
           receives = receives;
           within = within;
@@ -79,11 +77,11 @@ module _ {S T F : Type 0} (take : TakeGhosts T F) (slave : SlaveState S T) (stre
           tasks = refl;
         })
 
-    pub refuses-if : (result : Result ℕ E) → (stream.closed ≡ false → OnErr result (LosesStream take stream new slave b given bytes))
-        → (stream.closed ≡ true → (new ≡ stream) × (b ≡ slave)) → OnErr result (RefusesBytes take a (with_slots b new tasks) given bytes)
+    pub refuses-if : (result : Result ℕ E) → (stream.closed ≡ false → OnErr result (LosesStream stream new slave b given bytes))
+        → (stream.closed ≡ true → (new ≡ stream) × (b ≡ slave)) → OnErr result (RefusesBytes a (with_slots b new tasks) given bytes)
     refuses-if (Ok n) bad stays = tt
     refuses-if (Err e) bad stays =
-        subst (λ (x : LendingSlaveState S T). RefusesBytes take x (with_slots b new tasks) given bytes) is
+        subst (λ (x : LendingSlaveState). RefusesBytes x (with_slots b new tasks) given bytes) is
         (record {
           bad = bad;
           closed = λ on. let so = stays on in (λ i. with_slots (so.1 i) (so.0 i) tasks);
@@ -91,23 +89,22 @@ module _ {S T F : Type 0} (take : TakeGhosts T F) (slave : SlaveState S T) (stre
         })
 
     -- event channels are on their lines still
-    pub receives-lines : (result : Result ℕ E) → IfOk result (λ n. Receives take stream new slave b given (first n bytes))
-        → (stream.closed ≡ false → OnErr result (LosesStream take stream new slave b given bytes))
+    pub receives-lines : (result : Result ℕ E) → IfOk result (λ n. Receives stream new slave b given (first n bytes))
+        → (stream.closed ≡ false → OnErr result (LosesStream stream new slave b given bytes))
         → (stream.closed ≡ true → (new ≡ stream) × (b ≡ slave)) → KeepsLines slave b
     receives-lines (Ok n) receives bad stays = receives.hears.goes.0
     receives-lines (Err e) receives bad stays =
         elim (is-bool stream.closed) [
-          | inl on ↦ ap (λ (s : SlaveState S T). rings_of s.channels) (stays on).1
+          | inl on ↦ ap (λ (s : SlaveState). rings_of s.channels) (stays on).1
           | inr off ↦
               let loses = bad off in
               loses.disconnects.0 ∙ loses.breaks_off.receives.hears.goes.0
         ]
 
-module _ {S E T F : Type 0} (send : SendGhosts S E) (ring : EndGhosts E) (take : TakeGhosts T F) where
-  -- with what is left of the tasks the slave is closed
-  pub closes-with : (slave : SlaveState S T) (stream : ReaderState) (tasks : List (SlotState S)) (a : LendingSlaveState S T) → with_slots slave stream tasks ≡ a
-      → (ends : List (TaskEndState S)) (account : AccountState) (whole : Bool) (complete : Complete) → AreEndsOf send ring tasks ends → ClosesWith take slave ends account whole complete
-      → Closes send ring take a account whole complete
-  closes-with slave stream tasks a is ends account whole complete are closes =
-      subst (λ (x : LendingSlaveState S T). Closes send ring take x account whole complete) is
-      (record { ends = ends; are = are; closes = closes })
+-- with what is left of the tasks the slave is closed
+pub closes-with : (slave : SlaveState) (stream : ReaderState) (tasks : List SlotState) (a : LendingSlaveState) → with_slots slave stream tasks ≡ a
+    → (ends : List (TaskEndState FrameSend)) (account : AccountState) (whole : Bool) (complete : Complete) → AreEndsOf tasks ends → ClosesWith slave ends account whole complete
+    → Closes a account whole complete
+closes-with slave stream tasks a is ends account whole complete are closes =
+    subst (λ (x : LendingSlaveState). Closes x account whole complete) is
+    (record { ends = ends; are = are; closes = closes })

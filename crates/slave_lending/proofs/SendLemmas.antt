@@ -1,5 +1,5 @@
--- A slave that lends its tasks, and a task that was handed out, may go to other threads, where the
--- ends of their rings may. For callers that move them there.
+-- A slave that lends its tasks, and a task that was handed out, may go to other threads. For callers
+-- that move them there.
 use denote.RattleType.{RattleType}
 use denote.Param.Send.{AllSend, IsSend, owning_send, sendable, struct_send, recorded_send, view_send}
 use denote.Struct.Declared.{shape}
@@ -15,11 +15,13 @@ use Rattle.circular_buffer.specs.contracts.cells.Deed as Deed
 use Rattle.circular_buffer.specs.contracts.heap.HeapCircularBuffer as Buffer
 use Rattle.circular_buffer.specs.contracts.heap.HeapCircularBuffer.TheInside as BufferInside
 use Rattle.circular_buffer.specs.contracts.ring.Ring as Ring
-use Rattle.channel_ring.specs.declared.ends.SendEnd.{Ghosts as SendGhosts}
-use Rattle.channel_ring.specs.declared.ends.RingEnd.{Ghosts as EndGhosts}
-use Rattle.channel_ring.specs.declared.ends.TakeEnd.{Ghosts as TakeGhosts}
-use Rattle.channel_ring.specs.declared.item_ends.ItemTake.{Ghosts as ItemGhosts}
-use Rattle.daq_engine.specs.declared.ring.Ring.{Ghosts as RingGhosts}
+use Rattle.channel_ring.proofs.SendLemmas.{ring_end}
+use Rattle.frame_ring.specs.contracts.frame_left.FrameLeft as FrameLeft
+use Rattle.frame_ring.specs.contracts.frame_left.FrameLeftRingEnd.TheImpl.{ghosts as ring}
+use Rattle.frame_ring.specs.contracts.frame_send.FrameSend as FrameSend
+use Rattle.frame_ring.specs.contracts.frame_send.FrameSendSendEnd.TheImpl.{ghosts as send}
+use Rattle.frame_ring.specs.contracts.frame_take.FrameTake as FrameTake
+use Rattle.slave_outbox.specs.contracts.intake.Intake as Intake
 use Rattle.slave_outbox.specs.contracts.outbox.Outbox as Outbox
 use Rattle.slave_outbox.specs.contracts.origin.Origin as Origin
 use Rattle.slave_outbox.specs.contracts.sent_log.SentLog as Log
@@ -31,7 +33,9 @@ use Rattle.slave.specs.contracts.plan.Plan as Plan
 use Rattle.slave.specs.contracts.slave.Slave as Slave
 use Rattle.slave_channels.specs.contracts.channel.Channel as Channel
 use Rattle.slave_channels.specs.contracts.channels.Channels as Channels
+use Rattle.slave_channels.specs.contracts.share.Share as Share
 use Rattle.slave.specs.contracts.stream.MasterStream as MasterStream
+use Rattle.tasks.specs.contracts.link.TaskLink as TaskLink
 use Rattle.tasks.specs.contracts.task.Task as Task
 use Rattle.tasks.specs.contracts.task_end.TaskEnd as TaskEnd
 use Rattle.hand_over.proofs.SendLemmas.{coming_send, way_send}
@@ -85,30 +89,46 @@ account_send = search (sendable, crosses) depth 60 fits 20000
 stream_send : IsSend MasterStream.the_row
 stream_send = search (sendable, crosses) depth 60 fits 20000
 
-module _ (S E : RattleType) (send : SendGhosts S.Denot E.Denot) (ring : EndGhosts E.Denot) (s_goes : IsSend S) (e_goes : IsSend E) where
-  task_goes : IsSend (Task.the_row S E send ring)
-  task_goes = task_send S E send ring s_goes e_goes
+-- the ends of a ring of frames
+frame_send : IsSend FrameSend.the_row
+frame_send = search (sendable, crosses, ring_end) depth 60 fits 20000
 
-  end_goes : IsSend (TaskEnd.the_row S E send ring)
-  end_goes = task_end_send S E send ring s_goes e_goes
+frame_take : IsSend FrameTake.the_field.row
+frame_take = search (sendable, crosses, ring_end) depth 60 fits 20000
 
-  pub lent_task_send : IsSend (LentTask.the_row S E send ring)
-  lent_task_send = search (sendable, crosses, way_send, task_goes, end_goes) depth 60 fits 20000
+frame_left : IsSend FrameLeft.the_row
+frame_left = search (sendable, crosses, ring_end) depth 60 fits 20000
 
-  slot_send : IsSend (Slot.the_row S E send ring)
-  slot_send = search (sendable, crosses, coming_send, task_goes, end_goes) depth 60 fits 20000
+intake_send : IsSend Intake.the_row
+intake_send = search (sendable, crosses, frame_take) depth 60 fits 20000
 
--- over rings of one kind, whose ends may go
-module _ (R S T E : RattleType) (kind : RingGhosts R.Denot S.Denot T.Denot E.Denot) (send : SendGhosts S.Denot E.Denot)
-    (ring : EndGhosts E.Denot) (pass : ItemGhosts T.Denot E.Denot) (give : TakeGhosts T.Denot E.Denot) (s_goes : IsSend S) (t_goes : IsSend T) (e_goes : IsSend E) where
-  channel_send : IsSend (Channel.the_row R S T E kind send ring pass give)
-  channel_send = search (sendable, crosses, link_send) depth 60 fits 20000
+share_send : IsSend Share.the_row
+share_send = search (sendable, crosses, intake_send) depth 60 fits 20000
 
-  channels_send : IsSend (Channels.the_row R S T E kind send ring pass give)
-  channels_send = search (sendable, crosses, channel_send) depth 60 fits 20000
+-- a task, what is left of it, and the slave's end of its line
+task_goes : IsSend (Task.the_row FrameSend.the_row FrameLeft.the_row send ring)
+task_goes = task_send FrameSend.the_row FrameLeft.the_row send ring frame_send frame_left
 
-  slave_send : IsSend (Slave.the_row R S T E kind send ring pass give)
-  slave_send = search (sendable, crosses, session_send, outbox_send, plan_send, account_send, channels_send) depth 60 fits 20000
+end_goes : IsSend (TaskEnd.the_row FrameSend.the_row FrameLeft.the_row send ring)
+end_goes = task_end_send FrameSend.the_row FrameLeft.the_row send ring frame_send frame_left
 
-  pub lending_slave_send : IsSend (LendingSlave.the_row R S T E kind send ring pass give)
-  lending_slave_send = search (sendable, crosses, slave_send, stream_send, slot_send, end_goes) depth 60 fits 20000
+link_goes : IsSend (TaskLink.the_row FrameSend.the_row FrameLeft.the_row send ring)
+link_goes = link_send FrameSend.the_row FrameLeft.the_row send ring frame_send frame_left
+
+pub lent_task_send : IsSend LentTask.the_row
+lent_task_send = search (sendable, crosses, way_send, task_goes, end_goes) depth 60 fits 20000
+
+slot_send : IsSend Slot.the_row
+slot_send = search (sendable, crosses, coming_send, task_goes, end_goes) depth 60 fits 20000
+
+channel_send : IsSend Channel.the_row
+channel_send = search (sendable, crosses, link_goes, share_send) depth 60 fits 20000
+
+channels_send : IsSend Channels.the_row
+channels_send = search (sendable, crosses, channel_send) depth 60 fits 20000
+
+slave_send : IsSend Slave.the_row
+slave_send = search (sendable, crosses, session_send, outbox_send, plan_send, account_send, channels_send) depth 60 fits 20000
+
+pub lending_slave_send : IsSend LendingSlave.the_row
+lending_slave_send = search (sendable, crosses, slave_send, stream_send, slot_send, end_goes) depth 60 fits 20000

@@ -5,7 +5,7 @@ use Rattle.slave.specs.Standing.{SlaveState}
 use Rattle.slave_lending.specs.Slots.{SlotState}
 
 -- the slave, the stream of its master, and the tasks of its event channels, in their order
-pub record LendingSlaveState (S T : Type 0) : Type 0 where
-  pub slave : SlaveState S T
+pub record LendingSlaveState : Type 0 where
+  pub slave : SlaveState
   pub stream : ReaderState
-  pub tasks : List (SlotState S)
+  pub tasks : List SlotState

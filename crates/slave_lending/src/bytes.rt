@@ -5,12 +5,11 @@ ghost use Rattle.slave.specs.Hearing.{is_spent};
 ghost use Rattle.slave_lending.specs.Bytes.{HangsUp, HearsBytes, RefusesBytes, TakesBytes};
 
 use crate::lending_slave::LendingSlave;
-use daq_engine::Ring;
 use frame_writer::BadFrame;
 use slave::{MasterStream, datagram};
 use std::alloc::Global;
 
-impl<R: Ring> LendingSlave<R> {
+impl LendingSlave {
     /// Whether the slave is spent, and hears and takes nothing any more: `Slave::is_spent`.
     pub fn is_spent(&self) -> bool
         ensures { result ≡ is_spent self.now.slave }
@@ -27,9 +26,9 @@ impl<R: Ring> LendingSlave<R> {
         memory: &[&[u8]],
     ) -> Result<usize, BadFrame>
         ensures ok { IfOk result
-            (TakesBytes R.Take.TakeEnd self.old self.new (given_by clock memory.now) bytes.now) }
+            (TakesBytes self.old self.new (given_by clock memory.now) bytes.now) }
         ensures bad { OnErr result
-            (RefusesBytes R.Take.TakeEnd self.old self.new (given_by clock memory.now) bytes.now) }
+            (RefusesBytes self.old self.new (given_by clock memory.now) bytes.now) }
     {
         self.stream
             .receive(&mut self.slave, alloc, bytes, clock, memory)
@@ -38,8 +37,7 @@ impl<R: Ring> LendingSlave<R> {
     /// Hears the frames of a datagram, as `slave::datagram`, and returns how many bytes it
     /// took.
     pub fn datagram(&mut self, alloc: Global, bytes: &[u8], clock: u32, memory: &[&[u8]]) -> usize
-        ensures { HearsBytes R.Take.TakeEnd self.old self.new (given_by clock memory.now)
-            bytes.now result }
+        ensures { HearsBytes self.old self.new (given_by clock memory.now) bytes.now result }
     {
         datagram(&mut self.slave, alloc, bytes, clock, memory)
     }
@@ -47,7 +45,7 @@ impl<R: Ring> LendingSlave<R> {
     /// The transport was lost: the slave hangs up, which throws away what waits, and what is held
     /// of a frame is dropped. The next byte of a stream is the first of another one.
     pub fn hang_up(&mut self)
-        ensures { HangsUp R.Take.TakeEnd self.old self.new }
+        ensures { HangsUp self.old self.new }
     {
         self.slave.hang_up();
         self.stream = MasterStream::new(&self.slave);

@@ -6,18 +6,17 @@ ghost use Rattle.slave_lending.specs.Slots.{AreEndsOf};
 
 use crate::lending_slave::LendingSlave;
 use crate::slot::Slot;
-use channel_ring::SendEnd;
-use daq_engine::Ring;
+use frame_ring::FrameSend;
 use slave::Closed;
 use tasks::TaskEnd;
 
 /// What is left of all tasks, none of which is away: those that weren't handed out are finished. It
 /// takes no memory, since `room` has a place for each.
-fn ends_of<S: SendEnd>(slots: Vec<Slot<S>>, room: Vec<TaskEnd<S>>) -> Vec<TaskEnd<S>>
+fn ends_of(slots: Vec<Slot>, room: Vec<TaskEnd<FrameSend>>) -> Vec<TaskEnd<FrameSend>>
     requires none_away { NoneAwayOf slots.items }
     requires empty { room.items ≡ [] }
     requires room { length slots.items ≤ vec_capacity room }
-    ensures { AreEndsOf S.SendEnd S.End.RingEnd slots.items result.items }
+    ensures { AreEndsOf slots.items result.items }
 {
     let mut ends = room;
     for slot in slots {
@@ -26,13 +25,12 @@ fn ends_of<S: SendEnd>(slots: Vec<Slot<S>>, room: Vec<TaskEnd<S>>) -> Vec<TaskEn
     ends
 }
 
-impl<R: Ring> LendingSlave<R> {
+impl LendingSlave {
     /// Closes the slave, as `Slave::close`, with what is left of its tasks: none of them is away,
     /// and those that weren't handed out are finished. It takes no memory.
     pub fn close(self) -> Closed
         requires none_away { NoneAway self }
-        ensures closes { Closes R.Send.SendEnd R.Send.End.RingEnd R.Take.TakeEnd
-            self result.account result.is_whole result.complete }
+        ensures closes { Closes self result.account result.is_whole result.complete }
         ensures many { length result.complete.last ≡ LAST }
     {
         let LendingSlave {

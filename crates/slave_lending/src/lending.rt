@@ -7,15 +7,14 @@ use crate::lend_fault::LendFault;
 use crate::lending_slave::LendingSlave;
 use crate::lent_task::LentTask;
 use crate::slot::Slot;
-use daq_engine::Ring;
 use std::alloc::Global;
 
-impl<R: Ring> LendingSlave<R> {
+impl LendingSlave {
     /// Hands out the task of event channel `c`.
     ///
     /// Refused with `NoChannel` if there is no such event channel; else with `Lent` if its task was
     /// handed out before; else with `Memory` if there is no memory.
-    pub fn lend(&mut self, alloc: Global, c: usize) -> Result<LentTask<R::Send>, LendFault>
+    pub fn lend(&mut self, alloc: Global, c: usize) -> Result<LentTask, LendFault>
         ensures ok { IfOk result (LendsTask self.old self.new c) }
         ensures refused { IfErr result (RefusesTask self.old c) }
         ensures err { OnErr result (self.new ≡ self.old) }
@@ -27,11 +26,10 @@ impl<R: Ring> LendingSlave<R> {
     }
 
     /// Takes the task of event channel `c` back that was handed out last, as though it hadn't been.
-    pub fn take_back(&mut self, c: usize, lent: LentTask<R::Send>)
-        requires { (before : LendingSlaveState R.Send R.Take)
-            × LendsTask before self.old c lent }
-        ensures { (before : LendingSlaveState R.Send R.Take) →
-            LendsTask before self.old c lent → self.new ≡ before }
+    pub fn take_back(&mut self, c: usize, lent: LentTask)
+        requires { (before : LendingSlaveState) × LendsTask before self.old c lent }
+        ensures { (before : LendingSlaveState)
+            → LendsTask before self.old c lent → self.new ≡ before }
     {
         let LentTask { task, way: _ } = lent;
         self.slots[c] = Slot::of(task);

@@ -5,8 +5,7 @@ ghost use Rattle.slave_lending.specs.Lends.{IsOpenedWith};
 ghost use Rattle.slave_lending.specs.Slots.{with_task};
 
 use crate::slot::Slot;
-use channel_ring::SendEnd;
-use daq_engine::Ring;
+use frame_ring::FrameSend;
 use session::Profile;
 use slave::{MasterStream, OpenFault, Slave};
 use std::alloc::{AllocError, Global};
@@ -16,20 +15,23 @@ use tasks::{Task, TaskEnd};
 /// A slave, the stream of its master, and the tasks of its event channels: those that weren't
 /// handed out, the ways back of those that were, and what came back.
 #[derive(Drop)]
-pub struct LendingSlave<R: Ring> {
-    pub(crate) slave: Slave<R>,
+pub struct LendingSlave {
+    pub(crate) slave: Slave,
     pub(crate) stream: MasterStream,
-    pub(crate) slots: Vec<Slot<R::Send>>,
+    pub(crate) slots: Vec<Slot>,
     // places for what is left of the tasks, so that a close takes no memory
-    pub(crate) room: Vec<TaskEnd<R::Send>>,
+    pub(crate) room: Vec<TaskEnd<FrameSend>>,
 }
 
-impl<R: Ring> Model for LendingSlave<R> {
+impl Model for LendingSlave {
     ghost use Rattle.std.specs.Prelude.{◌≡◌, ◌≤◌, [], length, map, vec_capacity};
     ghost use Rattle.slave_channels.specs.Calls.{rings_of};
+    ghost use Rattle.slave_channels.specs.Codes.{end_codes};
     ghost use Rattle.slave_lending.specs.States.{LendingSlaveState};
 
-    ghost Value = { LendingSlaveState R.Send R.Take };
+    ghost Value = { LendingSlaveState };
+
+    ghost coded = { Prim.hlevel end_codes };
 
     ghost view = { λ l. record {
       slave = l.slave;
@@ -43,7 +45,7 @@ impl<R: Ring> Model for LendingSlave<R> {
 }
 
 /// A slot for each task, in their order.
-fn slots_of<S: SendEnd>(alloc: Global, tasks: Vec<Task<S>>) -> Result<Vec<Slot<S>>, AllocError>
+fn slots_of(alloc: Global, tasks: Vec<Task<FrameSend>>) -> Result<Vec<Slot>, AllocError>
     ensures { IfOk result (λ slots. slots.items ≡ map with_task tasks.items) }
 {
     let mut slots = Vec::with_capacity(alloc, tasks.len())?;
@@ -53,13 +55,13 @@ fn slots_of<S: SendEnd>(alloc: Global, tasks: Vec<Task<S>>) -> Result<Vec<Slot<S
     Ok(slots)
 }
 
-impl<R: Ring> LendingSlave<R> {
+impl LendingSlave {
     /// A slave with this profile, as `Slave::open` opens it. All its tasks are here, and no byte of
     /// a master came.
-    pub fn open(alloc: Global, profile: Profile) -> Result<LendingSlave<R>, OpenFault>
-        ensures opened { IfOk result (IsOpenedWith R.Take.TakeEnd profile) }
-        ensures can { OnOk result (CanOpen R.is_cap profile) }
-        ensures refusal { IfErr result (IsOpenRefusal R.is_cap profile) }
+    pub fn open(alloc: Global, profile: Profile) -> Result<LendingSlave, OpenFault>
+        ensures opened { IfOk result (IsOpenedWith profile) }
+        ensures can { OnOk result (CanOpen profile) }
+        ensures refusal { IfErr result (IsOpenRefusal profile) }
     {
         let (slave, tasks) = Slave::open(alloc, profile)?;
         let Ok(room) = Vec::with_capacity(alloc, tasks.len()) else {

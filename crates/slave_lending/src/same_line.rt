@@ -1,5 +1,5 @@
 //! The rule for a task that was handed out: what comes back is of its own line.
-use channel_ring::SendEnd;
+use frame_ring::FrameSend;
 use hand_over::Rule;
 use tasks::{Task, TaskEnd};
 
@@ -7,7 +7,7 @@ use tasks::{Task, TaskEnd};
 #[derive(Clone, Copy)]
 pub struct SameLine;
 
-impl<S: SendEnd> Rule<Task<S>, TaskEnd<S>> for SameLine {
+impl Rule<Task<FrameSend>, TaskEnd<FrameSend>> for SameLine {
     ghost use Rattle.std.specs.Prelude.{◌≡◌};
 
     ghost leaves = { λ task end. end.ring ≡ task.ring };

@@ -6,7 +6,7 @@ ghost use Rattle.slave_lending.specs.Slots.{IsEndOf, MayComeBack, away, is_away,
 use crate::lend_fault::LendFault;
 use crate::lent_task::LentTask;
 use crate::same_line::SameLine;
-use channel_ring::SendEnd;
+use frame_ring::FrameSend;
 use hand_over::{ComingBack, hand_over};
 use std::alloc::Global;
 use std::marker::Model;
@@ -16,20 +16,23 @@ use tasks::{Task, TaskEnd};
 /// The task of an event channel, as its slave has it. It wasn't handed out; or it was, and what is
 /// left of it comes back; or that came back.
 #[derive(Drop)]
-pub struct Slot<S: SendEnd> {
+pub struct Slot {
     // the task as it was at first: it tells its line with the slave
-    first: Snapshot<Task<S>>,
-    here: Option<Task<S>>,
-    coming: Option<ComingBack<Task<S>, TaskEnd<S>, SameLine>>,
-    back: Option<TaskEnd<S>>,
+    first: Snapshot<Task<FrameSend>>,
+    here: Option<Task<FrameSend>>,
+    coming: Option<ComingBack<Task<FrameSend>, TaskEnd<FrameSend>, SameLine>>,
+    back: Option<TaskEnd<FrameSend>>,
 }
 
-impl<S: SendEnd> Model for Slot<S> {
+impl Model for Slot {
     ghost use Rattle.std.specs.Prelude.{◌≡◌, IfSome};
     ghost use Rattle.std.specs.Option.{is_some};
+    ghost use Rattle.slave_channels.specs.Codes.{end_codes};
     ghost use Rattle.slave_lending.specs.Slots.{IsOneOf, SlotState};
 
-    ghost Value = { SlotState S };
+    ghost Value = { SlotState };
+
+    ghost coded = { Prim.hlevel end_codes };
 
     ghost view = { λ s. record {
       ring = s.first.value.ring;
@@ -44,9 +47,9 @@ impl<S: SendEnd> Model for Slot<S> {
         × IfSome s.back (λ end. end.ring ≡ s.first.value.ring) };
 }
 
-impl<S: SendEnd> Slot<S> {
+impl Slot {
     /// Of a task that wasn't handed out.
-    pub fn of(task: Task<S>) -> Slot<S>
+    pub fn of(task: Task<FrameSend>) -> Slot
         ensures { result ≡ with_task task }
     {
         Slot {
@@ -58,7 +61,7 @@ impl<S: SendEnd> Slot<S> {
     }
 
     /// Hands the task out.
-    pub fn lend(&mut self, alloc: Global) -> Result<LentTask<S>, LendFault>
+    pub fn lend(&mut self, alloc: Global) -> Result<LentTask, LendFault>
         ensures task { IfOk result (λ task. self.old ≡ with_task task) }
         ensures away { OnOk result (self.new ≡ away self.old.ring) }
         ensures refused { IfErr result (RefusesAt self.old) }
@@ -99,9 +102,9 @@ impl<S: SendEnd> Slot<S> {
     }
 
     /// What is left of the task, which is finished if it wasn't handed out.
-    pub fn into_end(self) -> TaskEnd<S>
+    pub fn into_end(self) -> TaskEnd<FrameSend>
         requires not_away { is_away self ≡ false }
-        ensures { IsEndOf S.SendEnd S.End.RingEnd self result }
+        ensures { IsEndOf self result }
     {
         let Slot {
             first: _,

@@ -4,9 +4,8 @@ ghost use Rattle.slave_outbox.specs.Outboxes.{bytes_in};
 ghost use Rattle.slave.specs.Standing.{Busy, Idle};
 
 use crate::lending_slave::LendingSlave;
-use daq_engine::Ring;
 
-impl<R: Ring> LendingSlave<R> {
+impl LendingSlave {
     /// Whether a master is connected, as `Slave::is_connected`.
     pub fn is_connected(&self) -> bool
         ensures { result ≡ self.now.slave.session.connected }

@@ -17,7 +17,7 @@ use Rattle.slave_outbox.specs.Outboxes.{bytes_in, together}
 use Rattle.slave_outbox.proofs.LaidLemmas.{many_together}
 use Rattle.slave_outbox.specs.declared.limits.TheConstants.{MAX_REPLIES, MOST, PAGE}
 use Rattle.slave_outbox.specs.declared.origin.Origin.{Origin}
-use Rattle.slave_outbox.proofs.KeptLemmas.{whether, blocks_bound, blocks_push, bytes_behind, bytes_push, kept_push, packets_laid, places_bound, replies_behind, replies_push, samples_behind, samples_push, some_behind, some_bytes, some_push, tight_behind, tight_push}
+use Rattle.slave_outbox.proofs.KeptLemmas.{whether, blocks_bound, blocks_push, bytes_behind, bytes_push, kept_push, packets_laid, places_bound, replies_behind, replies_push, samples_behind, samples_push, some_behind, some_push, tight_behind, tight_push}
 
 module _ (page : PageState Origin) (len : ℕ) (shown : Front) (bytes : List ℕ) (is : IsOutbox page len shown bytes) where
   -- so many bytes wait
@@ -25,7 +25,7 @@ module _ (page : PageState Origin) (len : ℕ) (shown : Front) (bytes : List ℕ
   bytes-waiting = ap (λ qs. length (unnumbered qs)) (packets_laid page.waits) ∙ sym is.long
 
   -- blocks for so many bytes more, and a place, are free
-  pub room-blocks : (more : ℕ) → 5 * len + 5 * more ≤ 5 * MOST → page.used + blocks_for more ≤ page.blocks
+  pub room-blocks : (more : ℕ) → 5 * len + 5 * more ≤ 5 * MOST → page.used + (2 + blocks_for more) ≤ page.blocks
   room-blocks more h = omega (arith, h, is.used, is.blocks_are, is.long, blocks_bound page.waits is.tight)
 
   pub room-places : length page.waits < page.most
@@ -33,9 +33,9 @@ module _ (page : PageState Origin) (len : ℕ) (shown : Front) (bytes : List ℕ
 
   -- so is one more
   pub outbox_more : (q : PageState Origin) (x : Kept Origin) (n : ℕ) → q ≡ record page { waits = page.waits ++ x ∷ []; used = page.used + x.blocks }
-      → n ≡ length (unnumbered x.packets) → x.blocks ≡ blocks_for n → 0 < length x.packets → n ≤ PAGE → len + n ≤ MOST
+      → n ≡ length (unnumbered x.packets) → x.blocks ≤ 2 + blocks_for n → 5 * x.blocks ≤ 3 * n → 0 < length x.packets → n ≤ PAGE → len + n ≤ MOST
       → sample_bytes page.waits + (if is_reply x.origin then 0 else length (unnumbered x.packets)) ≤ PAGE → replies_kept page.waits + (if is_reply x.origin then 1 else 0) ≤ MAX_REPLIES → IsOutbox q (len + n) shown bytes
-  outbox_more q x n same long blocks some short room samples replies =
+  outbox_more q x n same long blocks tight some short room samples replies =
       let all = packets_kept page.waits in
       let front : take shown.count (packets_kept (page.waits ++ x ∷ [])) ≡ take shown.count all = ap (take shown.count) (kept_push page.waits x) ∙ take_front shown.count all x.packets is.there in
       subst (λ (p : PageState Origin). IsOutbox p (len + n) shown bytes) (sym same)
@@ -48,7 +48,7 @@ module _ (page : PageState Origin) (len : ℕ) (shown : Front) (bytes : List ℕ
         some = some_push page.waits x is.some some;
         samples = omega (arith, samples, samples_push page.waits x);
         replies = omega (arith, replies, replies_push page.waits x);
-        tight = tight_push page.waits x is.tight (omega (arith, blocks, short)) (omega (arith, blocks, long, some_bytes x.packets some));
+        tight = tight_push page.waits x is.tight (omega (arith, blocks, short)) (omega (arith, tight, long));
         there = omega (arith, is.there, ap length (kept_push page.waits x), length-append all x.packets);
         front = is.front ∙ ap (λ qs. length (unnumbered qs)) (sym front);
         shown_are = is.shown_are ∙ ap (text page.counter) (sym front);

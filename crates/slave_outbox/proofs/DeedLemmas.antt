@@ -7,7 +7,7 @@ use Rattle.std.proofs.lemmas.List.Sums.{count_by-le-length, sum_by-cons}
 use Rattle.xcp_base.specs.Samples.{MarkParts, SampleParts}
 use Rattle.xcp_base.specs.declared.item.Item.TheVariants.{Marker, Sample}
 use Rattle.xcp_base.specs.declared.limits.TheConstants.{MAX_LISTS, MAX_TAKEN}
-use Rattle.channel_ring.specs.declared.ends.TakeEnd.{Ghosts as TakeGhosts}
+use Rattle.frame_ring.specs.Ends.{TakeState}
 use Rattle.transmitter.specs.Items.{count_of}
 use Rattle.transmitter.proofs.TakenLemmas.{count_of-append}
 use Rattle.slave_outbox.specs.Deeds.{Deed, Started, Stopped, Took, Unsent, is_mark_of, is_stop_of, is_unsent_of, marks_of, passed, passes, stops_of, taken, unsent_of}
@@ -163,68 +163,67 @@ after-unsent_other k l deeds other = kept_by _ _
 pub lets_pass-after : (deeds : List Deed) (l : ℕ) → lets_pass (list_after deeds l) ≡ passes deeds l
 lets_pass-after deeds l = refl
 
-module _ {T E : Type 0} (take : TakeGhosts T E) where
-  -- what is kept of list k changes so with a deed, and nothing else: then the intake goes on with it
-  goes_on-by : (a b : IntakeState T) (deed : Deed) (k : ℕ) (f : ListIntake → ListIntake) → Changes a.lists b.lists k f
-      → ((deeds : List Deed) → length deeds < MAX_TAKEN → StandsAfter take a deeds → take.received b.end ≡ taken (deed ∷ deeds))
-      → ((deeds : List Deed) → length deeds < MAX_TAKEN → StandsAfter take a deeds → list_after (deed ∷ deeds) k ≡ f (list_after deeds k))
-      → ((deeds : List Deed) (l : ℕ) → StandsAfter take a deeds → l ≢ k → list_after (deed ∷ deeds) l ≡ list_after deeds l)
-      → GoesOn take a b deed
-  goes_on-by a b deed k f changes received here others deeds less before = record {
-    few = omega (arith, less);
-    received = received deeds less before;
-    lists = λ l below. elim (eqb_tells l k) [
-      | inl w ↦
-          let kept : slice_get b.lists k ≡ Some (f (list_after deeds k)) = changes.here (list_after deeds k) (before.lists k (subst (λ x. x < MAX_LISTS) w.1 below)) in
-          subst (λ x. slice_get b.lists x ≡ Some (list_after (deed ∷ deeds) x)) (sym w.1) (kept ∙ ap Some (sym (here deeds less before)))
-      | inr w ↦ changes.others l w.1 ∙ before.lists l below ∙ ap Some (sym (others deeds l before w.1))
-    ];
-  }
+-- what is kept of list k changes so with a deed, and nothing else: then the intake goes on with it
+goes_on-by : (a b : IntakeState) (deed : Deed) (k : ℕ) (f : ListIntake → ListIntake) → Changes a.lists b.lists k f
+    → ((deeds : List Deed) → length deeds < MAX_TAKEN → StandsAfter a deeds → b.end.received ≡ taken (deed ∷ deeds))
+    → ((deeds : List Deed) → length deeds < MAX_TAKEN → StandsAfter a deeds → list_after (deed ∷ deeds) k ≡ f (list_after deeds k))
+    → ((deeds : List Deed) (l : ℕ) → StandsAfter a deeds → l ≢ k → list_after (deed ∷ deeds) l ≡ list_after deeds l)
+    → GoesOn a b deed
+goes_on-by a b deed k f changes received here others deeds less before = record {
+  few = omega (arith, less);
+  received = received deeds less before;
+  lists = λ l below. elim (eqb_tells l k) [
+    | inl w ↦
+        let kept : slice_get b.lists k ≡ Some (f (list_after deeds k)) = changes.here (list_after deeds k) (before.lists k (subst (λ x. x < MAX_LISTS) w.1 below)) in
+        subst (λ x. slice_get b.lists x ≡ Some (list_after (deed ∷ deeds) x)) (sym w.1) (kept ∙ ap Some (sym (here deeds less before)))
+    | inr w ↦ changes.others l w.1 ∙ before.lists l below ∙ ap Some (sym (others deeds l before w.1))
+  ];
+}
 
-  pub goes_on-start : (a b : IntakeState T) (k : ℕ) → Changes a.lists b.lists k started → b.end ≡ a.end → GoesOn take a b (Started k)
-  goes_on-start a b k changes same = goes_on-by a b (Started k) k started changes
-      (λ deeds less before. ap take.received same ∙ before.received)
-      (λ deeds less before. after-start k deeds)
-      (λ deeds l before other. after-start_other k l deeds other)
+pub goes_on-start : (a b : IntakeState) (k : ℕ) → Changes a.lists b.lists k started → b.end ≡ a.end → GoesOn a b (Started k)
+goes_on-start a b k changes same = goes_on-by a b (Started k) k started changes
+    (λ deeds less before. ap (λ (e : TakeState). e.received) same ∙ before.received)
+    (λ deeds less before. after-start k deeds)
+    (λ deeds l before other. after-start_other k l deeds other)
 
-  pub goes_on-stop : (a b : IntakeState T) (k : ℕ) → Changes a.lists b.lists k stopped → b.end ≡ a.end → GoesOn take a b (Stopped k)
-  goes_on-stop a b k changes same = goes_on-by a b (Stopped k) k stopped changes
-      (λ deeds less before. ap take.received same ∙ before.received)
-      (λ deeds less before. after-stop k deeds less)
-      (λ deeds l before other. after-stop_other k l deeds other)
+pub goes_on-stop : (a b : IntakeState) (k : ℕ) → Changes a.lists b.lists k stopped → b.end ≡ a.end → GoesOn a b (Stopped k)
+goes_on-stop a b k changes same = goes_on-by a b (Stopped k) k stopped changes
+    (λ deeds less before. ap (λ (e : TakeState). e.received) same ∙ before.received)
+    (λ deeds less before. after-stop k deeds less)
+    (λ deeds l before other. after-stop_other k l deeds other)
 
-  pub goes_on-unsent : (a b : IntakeState T) (k : ℕ) → Changes a.lists b.lists k threw → b.end ≡ a.end → GoesOn take a b (Unsent k)
-  goes_on-unsent a b k changes same = goes_on-by a b (Unsent k) k threw changes
-      (λ deeds less before. ap take.received same ∙ before.received)
-      (λ deeds less before. after-unsent k deeds less)
-      (λ deeds l before other. after-unsent_other k l deeds other)
+pub goes_on-unsent : (a b : IntakeState) (k : ℕ) → Changes a.lists b.lists k threw → b.end ≡ a.end → GoesOn a b (Unsent k)
+goes_on-unsent a b k changes same = goes_on-by a b (Unsent k) k threw changes
+    (λ deeds less before. ap (λ (e : TakeState). e.received) same ∙ before.received)
+    (λ deeds less before. after-unsent k deeds less)
+    (λ deeds l before other. after-unsent_other k l deeds other)
 
-  pub goes_on-marker : (a b : IntakeState T) (m : MarkParts) → Changes a.lists b.lists m.list marked → take.received b.end ≡ take.received a.end ++ Marker m ∷ [] → GoesOn take a b (Took (Marker m))
-  goes_on-marker a b m changes gains = goes_on-by a b (Took (Marker m)) m.list marked changes
-      (λ deeds less before. gains ∙ ap (λ xs. xs ++ Marker m ∷ []) before.received)
-      (λ deeds less before. after-marker m deeds less)
-      (λ deeds l before other. after-marker_other m l deeds other)
+pub goes_on-marker : (a b : IntakeState) (m : MarkParts) → Changes a.lists b.lists m.list marked → b.end.received ≡ a.end.received ++ Marker m ∷ [] → GoesOn a b (Took (Marker m))
+goes_on-marker a b m changes gains = goes_on-by a b (Took (Marker m)) m.list marked changes
+    (λ deeds less before. gains ∙ ap (λ xs. xs ++ Marker m ∷ []) before.received)
+    (λ deeds less before. after-marker m deeds less)
+    (λ deeds l before other. after-marker_other m l deeds other)
 
-  pub goes_on-wrote : (a b : IntakeState T) (s : SampleParts) → Changes a.lists b.lists s.list wrote → take.received b.end ≡ take.received a.end ++ Sample s ∷ []
-      → ((deeds : List Deed) → StandsAfter take a deeds → passes deeds s.list ≡ true) → GoesOn take a b (Took (Sample s))
-  goes_on-wrote a b s changes gains may = goes_on-by a b (Took (Sample s)) s.list wrote changes
-      (λ deeds less before. gains ∙ ap (λ xs. xs ++ Sample s ∷ []) before.received)
-      (λ deeds less before. after-wrote s deeds less (may deeds before))
-      (λ deeds l before other. after-wrote_other s l deeds other (may deeds before))
+pub goes_on-wrote : (a b : IntakeState) (s : SampleParts) → Changes a.lists b.lists s.list wrote → b.end.received ≡ a.end.received ++ Sample s ∷ []
+    → ((deeds : List Deed) → StandsAfter a deeds → passes deeds s.list ≡ true) → GoesOn a b (Took (Sample s))
+goes_on-wrote a b s changes gains may = goes_on-by a b (Took (Sample s)) s.list wrote changes
+    (λ deeds less before. gains ∙ ap (λ xs. xs ++ Sample s ∷ []) before.received)
+    (λ deeds less before. after-wrote s deeds less (may deeds before))
+    (λ deeds l before other. after-wrote_other s l deeds other (may deeds before))
 
-  pub goes_on-skipped : (a b : IntakeState T) (s : SampleParts) → b.lists ≡ a.lists → take.received b.end ≡ take.received a.end ++ Sample s ∷ []
-      → ((deeds : List Deed) → StandsAfter take a deeds → passes deeds s.list ≡ false) → GoesOn take a b (Took (Sample s))
-  goes_on-skipped a b s same gains held deeds less before = record {
-    few = omega (arith, less);
-    received = gains ∙ ap (λ xs. xs ++ Sample s ∷ []) before.received;
-    lists = λ l below.
-        ap (λ xs. slice_get xs l) same ∙ before.lists l below ∙ ap Some (sym (after-skipped s l deeds (held deeds before)));
-  }
+pub goes_on-skipped : (a b : IntakeState) (s : SampleParts) → b.lists ≡ a.lists → b.end.received ≡ a.end.received ++ Sample s ∷ []
+    → ((deeds : List Deed) → StandsAfter a deeds → passes deeds s.list ≡ false) → GoesOn a b (Took (Sample s))
+goes_on-skipped a b s same gains held deeds less before = record {
+  few = omega (arith, less);
+  received = gains ∙ ap (λ xs. xs ++ Sample s ∷ []) before.received;
+  lists = λ l below.
+      ap (λ xs. slice_get xs l) same ∙ before.lists l below ∙ ap Some (sym (after-skipped s l deeds (held deeds before)));
+}
 
-  -- a sample of a list that there can't be tells nothing
-  pub stands-beyond : (i : IntakeState T) (l : ℕ) (deeds : List Deed) → MAX_LISTS ≤ l → length deeds < MAX_TAKEN → StandsAfter take i deeds → StandsAfter take i (Unsent l ∷ deeds)
-  stands-beyond i l deeds beyond less stands = record {
-    few = omega (arith, less);
-    received = stands.received;
-    lists = λ k below. stands.lists k below ∙ ap Some (sym (after-unsent_other l k deeds (λ same. omega (arith, same, below, beyond))));
-  }
+-- a sample of a list that there can't be tells nothing
+pub stands-beyond : (i : IntakeState) (l : ℕ) (deeds : List Deed) → MAX_LISTS ≤ l → length deeds < MAX_TAKEN → StandsAfter i deeds → StandsAfter i (Unsent l ∷ deeds)
+stands-beyond i l deeds beyond less stands = record {
+  few = omega (arith, less);
+  received = stands.received;
+  lists = λ k below. stands.lists k below ∙ ap Some (sym (after-unsent_other l k deeds (λ same. omega (arith, same, below, beyond))));
+}

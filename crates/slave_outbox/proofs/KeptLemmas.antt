@@ -1,9 +1,11 @@
 -- How a page keeps what waits.
 use Rattle.std.proofs.Common.{◌≡◌, ℕ, ◌+◌, ◌-◌, ◌*◌, ◌<◌, ◌≤◌, Bool, true, false, List, [], ◌∷◌, ◌++◌, length, take, drop, map, refl, sym, ap, ◌∙◌, subst, arith, append_assoc, append-nil, length-append, zero, suc, ◌⊎◌, inl, inr}
-use Rattle.std.specs.Prelude.{count_by, nat_le, slice_get, Some, if◌then◌else◌}
+use Rattle.std.specs.Prelude.{All, count_by, nat_le, slice_get, Some, if◌then◌else◌}
 use Rattle.std.proofs.lemmas.Bool.Decides.{nat_tests}
 use Rattle.std.proofs.lemmas.List.{length-drop, take-append-drop}
+use Rattle.std.proofs.lemmas.List.Elements.{All-head}
 use Rattle.std.proofs.lemmas.List.Sums.{sum_by-cons}
+use Rattle.channel_ring.specs.Making.{IsPacket}
 use Rattle.frame_writer.specs.Frame.{unnumbered}
 use Rattle.frame_ring.proofs.FrameLemmas.{unnumbered-append}
 use Rattle.frame_page.specs.Laid.{Laid as Kept, behind, blocks_of}
@@ -175,6 +177,11 @@ blocks_bound (x ∷ xs) tight =
 pub some_bytes : (qs : List (List ℕ)) → 0 < length qs → 4 ≤ length (unnumbered qs)
 some_bytes [] some = absurd (omega (arith, some))
 some_bytes (q ∷ qs) some = omega (arith, length-append q (unnumbered qs))
+
+-- frames of packets have more bytes than their headers
+pub frames_bytes : (qs : List (List ℕ)) → 0 < length qs → All IsPacket qs → 5 ≤ length (unnumbered qs)
+frames_bytes [] some each = absurd (omega (arith, some))
+frames_bytes (q ∷ qs) some each = omega (arith, (All-head IsPacket q qs each).some, length-append q (unnumbered qs))
 
 pub places_bound : (xs : List (Kept Origin)) → HaveSome xs → 4 * length xs ≤ 4 * replies_kept xs + sample_bytes xs
 places_bound [] some = omega arith

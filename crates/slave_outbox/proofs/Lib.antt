@@ -7,3 +7,4 @@ pub mod LaidLemmas
 pub mod KeptLemmas
 pub mod BoxLemmas
 pub mod TakingLemmas
+pub mod HeadLemmas

@@ -1,148 +1,88 @@
 -- A step of an intake, by its parts.
-use Rattle.std.proofs.Common.{◌≡◌, ℕ, ◌+◌, ◌*◌, ◌<◌, Bool, true, false, List, [], ◌∷◌, ◌++◌, length, length-append, refl, sym, ap, ◌∙◌, subst, arith, Some}
-use Rattle.std.specs.Prelude.{slice_get}
+use Rattle.std.proofs.Common.{◌≡◌, ℕ, ◌<◌, Bool, true, false, List, [], ◌∷◌, ◌++◌, length, sym, ap, ◌∙◌, subst}
 use mathlib.Core.List.{IsPrefix}
-use Rattle.xcp_base.specs.Samples.{MarkParts, SampleParts}
 use Rattle.xcp_base.specs.declared.item.Item.{Item}
 use Rattle.xcp_base.specs.declared.item.Item.TheVariants.{Marker, Sample}
-use Rattle.xcp_base.specs.Bodies.{body_of}
-use Rattle.xcp_base.specs.declared.limits.TheConstants.{MAX_LISTS}
-use Rattle.frame_writer.specs.Frame.{unnumbered}
+use Rattle.frame_ring.specs.Ends.{LooksForItems, TakeState}
+use Rattle.frame_ring.specs.Heads.{head_of, item_head}
+use Rattle.frame_ring.proofs.EndLemmas.{prefix_then}
 use Rattle.frame_page.specs.Pages.{PageState}
-use Rattle.channel_ring.specs.Ends.{PassesFirst}
-use Rattle.channel_ring.specs.declared.ends.TakeEnd.{Ghosts as TakeGhosts}
-use Rattle.transmitter.proofs.TakenLemmas.{same_first}
 use Rattle.slave_outbox.specs.Deeds.{Deed, passes}
-use Rattle.slave_outbox.specs.Intakes.{IntakeState, OnlyLooked, StandsAfter, list_after}
-use Rattle.slave_outbox.specs.IntakeInner.{BeginsWith, LaysFirst, LaysSample, Notes, lets_pass, takes_one}
-use Rattle.slave_outbox.specs.Steps.{IsHeldBack, LaysOut, Passes, StepMeans}
+use Rattle.slave_outbox.specs.Intakes.{IntakeState, StandsAfter, list_after}
+use Rattle.slave_outbox.specs.IntakeInner.{LetsGo, LetsPass, Notes, TakesHead, lets_pass}
+use Rattle.slave_outbox.specs.Steps.{HoldsNext, IsHeldBack, Passes, StepMeans}
 use Rattle.slave_outbox.specs.declared.origin.Origin.{Origin}
-use Rattle.slave_outbox.specs.declared.origin.Origin.TheVariants as origin
-use Rattle.slave_outbox.specs.declared.list_intake.ListIntake.{ListIntake}
 use Rattle.slave_outbox.specs.declared.step.Step.{Step}
 use Rattle.slave_outbox.specs.declared.step.Step.TheVariants.{Full, Marked, Nothing, Skipped, Wrote}
 use Rattle.slave_outbox.proofs.DeedLemmas.{goes_on-marker, goes_on-skipped, goes_on-wrote, lets_pass-after, same_some}
 
--- the frames of packets, by their body: each has a header of four bytes in the place of one
-pub unnumbered_by : (qs : List (List ℕ)) → length (unnumbered qs) ≡ length (body_of qs) + 3 * length qs
-unfolding body_of
-unnumbered_by [] = refl
-unnumbered_by (q ∷ qs) =
-    omega (arith, unnumbered_by qs, length-append q (unnumbered qs), length-append q (body_of qs))
+-- whether the samples of a list pass is what is kept of it
+passes-kept : (a : IntakeState) (l : ℕ) (may : Bool) → LetsPass a.lists l may → (deeds : List Deed) → StandsAfter a deeds → passes deeds l ≡ may
+passes-kept a l may lets deeds stands =
+    let same : list_after deeds l ≡ lets.kept = same_some _ _ (sym (stands.lists l lets.below) ∙ lets.found) in
+    sym (lets_pass-after deeds l) ∙ ap lets_pass same ∙ sym lets.may_is
 
--- what the first item comes to is what its sample or its marker comes to
-pub begins-with : (known : List Item) (lists : List ListIntake) (s : SampleParts) (i : ℕ) (kept : ListIntake) (may : Bool) → IsPrefix (Sample s ∷ []) known
-    → i ≡ s.list → i < MAX_LISTS → slice_get lists i ≡ Some kept → may ≡ lets_pass kept → BeginsWith known lists s may
-begins-with known lists s i kept may first is below found passed = record {
-  first = first;
-  below = subst (λ l. l < MAX_LISTS) is below;
-  kept = kept;
-  found = ap (slice_get lists) (sym is) ∙ found;
-  may_is = passed;
-}
+-- an intake behind a look at its ring, and behind a step
+module _ (a b : IntakeState) (t : TakeState) (looked : LooksForItems a.end t) where
+  gains : (x : Item) → LetsGo t b.end x → b.end.received ≡ a.end.received ++ x ∷ []
+  gains x go = go.gains ∙ ap (λ xs. xs ++ x ∷ []) looked.received
 
-pub lays-marker : (known : List Item) (lists : List ListIntake) (m : MarkParts) (p : PageState Origin) (n c room l : ℕ) → IsPrefix (Marker m ∷ []) known
-    → l ≡ m.list → l < MAX_LISTS → LaysFirst known lists p p n c room (Marked l)
-lays-marker known lists m p n c room l first is below = (m, first, is, below, refl)
+  first_known : (x : Item) → LetsGo t b.end x → IsPrefix a.end.known (x ∷ b.end.known)
+  first_known x go = prefix_then a.end.known t.known (x ∷ b.end.known) looked.grows go.first
 
-pub lays-first : (known : List Item) (lists : List ListIntake) (s : SampleParts) (may : Bool) (p q : PageState Origin) (n c room : ℕ) (step : Step)
-    → BeginsWith known lists s may → LaysSample may s p q (origin.Sample n c s.list) room step → LaysFirst known lists p q n c room step
-lays-first known lists s may p q n c room Nothing first lays = lays
-lays-first known lists s may p q n c room Full first lays = (s, may, first, lays)
-lays-first known lists s may p q n c room (Marked l) first lays = elim lays [ ]
-lays-first known lists s may p q n c room (Skipped l) first lays = (s, may, first, lays)
-lays-first known lists s may p q n c room (Wrote l len) first lays = (s, may, first, lays)
+  told : (x : Item) → LetsGo t b.end x → 0 < length a.end.known → head_of a.end.front ≡ item_head x
+  told x go some = ap head_of (sym (looked.front some)) ∙ go.told
 
-module _ {T E : Type 0} (take : TakeGhosts T E) where
-  -- whether the samples of a list pass is what is kept of it
-  passes-kept : (a : IntakeState T) (known : List Item) (s : SampleParts) (may : Bool) → BeginsWith known a.lists s may → (deeds : List Deed) → StandsAfter take a deeds → passes deeds s.list ≡ may
-  passes-kept a known s may begins deeds stands =
-      let same : list_after deeds s.list ≡ begins.kept = same_some _ _ (sym (stands.lists s.list begins.below) ∙ begins.found) in
-      sym (lets_pass-after deeds s.list) ∙ ap lets_pass same ∙ sym begins.may_is
-
-  -- behind a look the same stands
-  stands-looked : (a m : IntakeState T) → OnlyLooked take a m → (deeds : List Deed) → StandsAfter take a deeds → StandsAfter take m deeds
-  stands-looked a m looked deeds stands = record {
-    few = stands.few;
-    received = looked.received ∙ stands.received;
-    lists = λ l below. ap (λ xs. slice_get xs l) looked.lists ∙ stands.lists l below;
-  }
-
-  -- an item was let go behind a look, which found it first
-  record LetsGo (a m b : IntakeState T) (x : Item) : Type 0 where
-    pub gains : take.received b.end ≡ take.received a.end ++ x ∷ []
-    pub first_known : IsPrefix (take.known a.end) (x ∷ take.known b.end)
-
-  lets_go : (a m b : IntakeState T) (x : Item) → OnlyLooked take a m → IsPrefix (x ∷ []) (take.known m.end)
-      → PassesFirst (take.received m.end) (take.received b.end) (take.known m.end) (take.known b.end) → LetsGo a m b x
-  lets_go a m b x looked first p =
-      let is : p.item ≡ x = same_first p.item x (take.known m.end) (take.known b.end, sym p.was_first) first in
-      record {
-        gains = subst (λ y. take.received b.end ≡ take.received a.end ++ y ∷ []) is (p.taken ∙ ap (λ xs. xs ++ p.item ∷ []) looked.received);
-        first_known = subst (λ y. IsPrefix (take.known a.end) (y ∷ take.known b.end)) is (subst (λ ys. IsPrefix (take.known a.end) ys) p.was_first looked.known);
-      }
-
-  abbrev pub Lets : Step → IntakeState T → IntakeState T → Type 0
-  Lets step m b =
-      (takes_one step ≡ true → PassesFirst (take.received m.end) (take.received b.end) (take.known m.end) (take.known b.end))
-      × (takes_one step ≡ false → b.end ≡ m.end)
-
-  -- a step is a look, what the first item comes to, its letting go, and the note of it
-  pub step-means : (a m b : IntakeState T) (p q : PageState Origin) (n c room : ℕ) (step : Step)
-      → OnlyLooked take a m → LaysFirst (take.known m.end) m.lists p q n c room step → Lets step m b → take.ring b.end ≡ take.ring m.end → Notes m.lists b.lists step
-      → StepMeans take a b p q n c room step
-  step-means a m b p q n c room Nothing looked lays lets ring notes = absurd lays
-  step-means a m b p q n c room Full looked (s, may, begins, lays) lets ring notes =
-      let same = lets.1 refl in (
+  -- a step is a look, what the first item comes to, and the note of it
+  pub step-means : (p q : PageState Origin) (n c room : ℕ) (step : Step) → TakesHead t b.end a.lists p q n c room step → Notes a.lists b.lists step
+      → StepMeans a b p q n c room step
+  step-means p q n c room Nothing takes notes = absurd takes
+  step-means p q n c room Full (s, len, next, lets, over, same, out) notes = (
+    s,
+    len,
+    record { lists = notes; end = subst (λ e. LooksForItems a.end e) (sym same) looked },
+    subst (λ e. HoldsNext e s len) (sym same) next,
+    passes-kept a s.list true lets,
+    over,
+    out,
+  )
+  step-means p q n c room (Marked l) (x, go, is, below, out) notes = (
+    x,
+    record {
+      goes_on = goes_on-marker a b x (subst (λ k. Notes a.lists b.lists (Marked k)) is notes) (gains (Marker x) go);
+      gains = gains (Marker x) go;
+      first_known = first_known (Marker x) go;
+      told = told (Marker x) go;
+      ring = go.ring ∙ looked.ring;
+    },
+    is,
+    out,
+  )
+  step-means p q n c room (Skipped l) (s, go, is, lets, out) notes =
+      let held : IsHeldBack a s.list = subst (λ k. IsHeldBack a k) is (passes-kept a l false lets) in (
         s,
         record {
-          lists = notes ∙ looked.lists;
-          received = ap take.received same ∙ looked.received;
-          known = subst (λ e. IsPrefix (take.known a.end) (take.known e)) (sym same) looked.known;
-          ring = ring ∙ looked.ring;
-        },
-        subst (λ e. IsPrefix (Sample s ∷ []) (take.known e)) (sym same) begins.first,
-        (λ deeds stands. passes-kept m (take.known m.end) s may begins deeds (stands-looked a m looked deeds stands) ∙ lays.0),
-        lays.1,
-        lays.2,
-      )
-  step-means a m b p q n c room (Marked l) looked (k, first, is, below, same) lets ring notes =
-      let go = lets_go a m b (Marker k) looked first (lets.0 refl) in (
-        k,
-        record {
-          goes_on = goes_on-marker take a b k (subst (λ x. Notes a.lists b.lists (Marked x)) is (subst (λ xs. Notes xs b.lists (Marked l)) looked.lists notes)) go.gains;
-          gains = go.gains;
-          first_known = go.first_known;
-          ring = ring ∙ looked.ring;
+          goes_on = goes_on-skipped a b s notes (gains (Sample s) go) held;
+          gains = gains (Sample s) go;
+          first_known = first_known (Sample s) go;
+          told = told (Sample s) go;
+          ring = go.ring ∙ looked.ring;
         },
         is,
-        same,
-      )
-  step-means a m b p q n c room (Skipped l) looked (s, may, begins, lays) lets ring notes =
-      let go = lets_go a m b (Sample s) looked begins.first (lets.0 refl) in
-      let held : IsHeldBack take a s.list = λ deeds stands. passes-kept m (take.known m.end) s may begins deeds (stands-looked a m looked deeds stands) ∙ lays.0 in (
-        s,
-        record {
-          goes_on = goes_on-skipped take a b s (notes ∙ looked.lists) go.gains held;
-          gains = go.gains;
-          first_known = go.first_known;
-          ring = ring ∙ looked.ring;
-        },
-        lays.1,
         held,
-        lays.2,
+        out,
       )
-  step-means a m b p q n c room (Wrote l len) looked (s, may, begins, lays) lets ring notes =
-      let go = lets_go a m b (Sample s) looked begins.first (lets.0 refl) in
-      let may_pass : Passes take a s.list = λ deeds stands. passes-kept m (take.known m.end) s may begins deeds (stands-looked a m looked deeds stands) ∙ lays.0 in (
+  step-means p q n c room (Wrote l len) (s, go, is, lets, lays) notes =
+      let may : Passes a s.list = subst (λ k. Passes a k) is (passes-kept a l true lets) in (
         s,
         record {
-          goes_on = goes_on-wrote take a b s (subst (λ x. Notes a.lists b.lists (Wrote x len)) lays.1 (subst (λ xs. Notes xs b.lists (Wrote l len)) looked.lists notes)) go.gains may_pass;
-          gains = go.gains;
-          first_known = go.first_known;
-          ring = ring ∙ looked.ring;
+          goes_on = goes_on-wrote a b s (subst (λ k. Notes a.lists b.lists (Wrote k len)) is notes) (gains (Sample s) go) may;
+          gains = gains (Sample s) go;
+          first_known = first_known (Sample s) go;
+          told = told (Sample s) go;
+          ring = go.ring ∙ looked.ring;
         },
-        lays.1,
-        may_pass,
-        subst (λ k. LaysOut p q s (origin.Sample n c k) len room) (sym lays.1) lays.2,
+        is,
+        may,
+        lays,
       )

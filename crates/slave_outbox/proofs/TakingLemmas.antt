@@ -1,6 +1,5 @@
 -- An item is taken off a ring.
 use Rattle.std.proofs.Common.{◌≡◌, ℕ, ◌-◌, List, ap, ◌∙◌, arith}
-use Rattle.channel_ring.specs.declared.ends.TakeEnd.{Ghosts as TakeGhosts}
 use Rattle.frame_page.specs.Pages.{PageState}
 use Rattle.slave_outbox.specs.Inner.{laid_of}
 use Rattle.slave_outbox.specs.Intakes.{IntakeState}
@@ -17,21 +16,20 @@ use Rattle.slave_outbox.proofs.KeptLemmas.{laid_push, some_bytes}
 abbrev pub box_of : List ℕ → PageState Origin → ℕ → OutboxState
 box_of sent p shown = record { sent = sent; counter = p.counter; waits = laid_of p.waits; shown = shown }
 
-module _ {T E : Type 0} (take_end : TakeGhosts T E) where
-  -- what became of the item is what became of it in the page
-  pub takes-item : (a b : IntakeState T) (p q : PageState Origin) (room : ℕ) (gone : List ℕ) (shown m k : ℕ) (step : Step)
-      → room ≡ PAGE - bytes_in (laid_of p.waits) → StepMeans take_end a b p q m k room step → TakesItem take_end a b (box_of gone p shown) (box_of gone q shown) m k step
-  takes-item a b p q room gone shown m k Nothing is (looked, empty, same) = (looked, empty, ap (λ x. box_of gone x shown) same)
-  takes-item a b p q room gone shown m k Full is (s, looked, first, passes, over, same) =
-      (s, looked, first, passes, omega (arith, over, is), ap (λ x. box_of gone x shown) same)
-  takes-item a b p q room gone shown m k (Marked l) is (x, takes, list, same) = (x, takes, list, ap (λ x. box_of gone x shown) same)
-  takes-item a b p q room gone shown m k (Skipped l) is (s, takes, list, held, same) = (s, takes, list, held, ap (λ x. box_of gone x shown) same)
-  takes-item a b p q room gone shown m k (Wrote l len) is (s, takes, list, passes, lays) = (
-    s,
-    takes,
-    list,
-    passes,
-    lays.packets,
-    omega (arith, is, lays.within, lays.long, some_bytes s.packets lays.packets.some),
-    ap (λ x. box_of gone x shown) lays.page ∙ ap (λ xs. record { sent = gone; counter = p.counter; waits = xs; shown = shown }) (laid_push p.waits _),
-  )
+-- what became of the item is what became of it in the page
+pub takes-item : (a b : IntakeState) (p q : PageState Origin) (room : ℕ) (gone : List ℕ) (shown m k : ℕ) (step : Step)
+    → room ≡ PAGE - bytes_in (laid_of p.waits) → StepMeans a b p q m k room step → TakesItem a b (box_of gone p shown) (box_of gone q shown) m k step
+takes-item a b p q room gone shown m k Nothing is (looked, empty, same) = (looked, empty, ap (λ x. box_of gone x shown) same)
+takes-item a b p q room gone shown m k Full is (s, len, looked, next, passes, over, same) =
+    (s, len, looked, next, passes, omega (arith, over, is), ap (λ x. box_of gone x shown) same)
+takes-item a b p q room gone shown m k (Marked l) is (x, takes, list, same) = (x, takes, list, ap (λ x. box_of gone x shown) same)
+takes-item a b p q room gone shown m k (Skipped l) is (s, takes, list, held, same) = (s, takes, list, held, ap (λ x. box_of gone x shown) same)
+takes-item a b p q room gone shown m k (Wrote l len) is (s, takes, list, passes, lays) = (
+  s,
+  takes,
+  list,
+  passes,
+  lays.packets,
+  omega (arith, is, lays.within, lays.long, some_bytes s.packets lays.packets.some),
+  ap (λ x. box_of gone x shown) lays.page ∙ ap (λ xs. record { sent = gone; counter = p.counter; waits = xs; shown = shown }) (laid_push p.waits _),
+)

@@ -1,14 +1,15 @@
 -- What no public clause cites: what is kept of each DAQ list, and the parts of a step.
 use Rattle.std.specs.Prelude.{◌≡◌, ◌≢◌, ℕ, ◌+◌, ◌<◌, min, ◌&&◌, Bool, true, false, not, nat_lt}
-use Rattle.std.specs.Prelude.{List, [], ◌∷◌, length, slice_get, Some}
+use Rattle.std.specs.Prelude.{List, [], ◌∷◌, ◌++◌, slice_get, Some}
 use mathlib.Core.List.{IsPrefix}
 use Rattle.xcp_base.specs.Samples.{MarkParts, SampleParts}
 use Rattle.xcp_base.specs.declared.item.Item.{Item}
 use Rattle.xcp_base.specs.declared.item.Item.TheVariants.{Marker, Sample}
 use Rattle.xcp_base.specs.declared.limits.TheConstants.{MAX_LISTS}
-use Rattle.frame_writer.specs.Frame.{unnumbered}
+use Rattle.frame_ring.specs.Ends.{TakeState}
+use Rattle.frame_ring.specs.Heads.{head_of, item_head}
 use Rattle.frame_page.specs.Pages.{PageState}
-use Rattle.slave_outbox.specs.Steps.{LaysOut}
+use Rattle.slave_outbox.specs.Steps.{HoldsNext, LaysOut}
 use Rattle.slave_outbox.specs.declared.origin.Origin.{Origin}
 use Rattle.slave_outbox.specs.declared.origin.Origin.TheVariants as origin
 use Rattle.slave_outbox.specs.declared.list_intake.ListIntake.{ListIntake}
@@ -45,44 +46,36 @@ pub record Changes (a b : List ListIntake) (l : ℕ) (f : ListIntake → ListInt
   pub here : (x : ListIntake) → slice_get a l ≡ Some x → slice_get b l ≡ Some (f x)
   pub others : (k : ℕ) → k ≢ l → slice_get b k ≡ slice_get a k
 
--- what a sample comes to, if it passes or doesn't, as one that is from there
-abbrev pub LaysSample :
-    Bool → SampleParts → PageState Origin → PageState Origin → Origin → ℕ → Step → Type 0
-LaysSample may s p q from room Nothing = ⊥
-LaysSample may s p q from room Full =
-    (may ≡ true) × (room < length (unnumbered s.packets)) × (q ≡ p)
-LaysSample may s p q from room (Marked l) = ⊥
-LaysSample may s p q from room (Skipped l) = (may ≡ false) × (l ≡ s.list) × (q ≡ p)
-LaysSample may s p q from room (Wrote l len) =
-    (may ≡ true) × (l ≡ s.list) × LaysOut p q s from len room
+-- the first item was taken, which is this one, as its head told
+pub record LetsGo (t u : TakeState) (x : Item) : Type 0 where
+  pub told : head_of t.front ≡ item_head x
+  pub gains : u.received ≡ t.received ++ x ∷ []
+  pub first : IsPrefix t.known (x ∷ u.known)
+  pub ring : u.ring ≡ t.ring
 
--- the first of these items is a sample, and its list lets samples pass, or doesn't
-pub record BeginsWith (known : List Item) (lists : List ListIntake) (s : SampleParts) (may : Bool)
-    : Type 0 where
-  pub first : IsPrefix (Sample s ∷ []) known
-  pub below : s.list < MAX_LISTS
+-- a list lets samples pass, or doesn't
+pub record LetsPass (lists : List ListIntake) (l : ℕ) (may : Bool) : Type 0 where
+  pub below : l < MAX_LISTS
   pub kept : ListIntake
-  pub found : slice_get lists s.list ≡ Some kept
+  pub found : slice_get lists l ≡ Some kept
   pub may_is : may ≡ lets_pass kept
 
--- what the first of these items comes to, if it is one of measurement m and event channel c
-abbrev pub LaysFirst :
-    List Item → List ListIntake → PageState Origin → PageState Origin → ℕ → ℕ → ℕ → Step
-    → Type 0
-LaysFirst known lists p q m c room Nothing = ⊥
-LaysFirst known lists p q m c room (Marked l) =
-    (x : MarkParts) × IsPrefix (Marker x ∷ []) known × (l ≡ x.list) × (l < MAX_LISTS) × (q ≡ p)
-LaysFirst known lists p q m c room step =
-    (s : SampleParts) × (may : Bool) × BeginsWith known lists s may
-    × LaysSample may s p q (origin.Sample m c s.list) room step
-
--- a step takes an item
-abbrev pub takes_one : Step → Bool
-takes_one Nothing = false
-takes_one Full = false
-takes_one (Marked l) = true
-takes_one (Skipped l) = true
-takes_one (Wrote l len) = true
+-- what the first item comes to, of which the head is known, if it is one of measurement m and event
+-- channel c
+abbrev pub TakesHead :
+    TakeState → TakeState → List ListIntake → PageState Origin → PageState Origin → ℕ → ℕ → ℕ
+    → Step → Type 0
+TakesHead t u lists p q m c room Nothing = ⊥
+TakesHead t u lists p q m c room Full =
+    (s : SampleParts) × (len : ℕ) × HoldsNext t s len × LetsPass lists s.list true
+    × (room < len) × (u ≡ t) × (q ≡ p)
+TakesHead t u lists p q m c room (Marked l) =
+    (x : MarkParts) × LetsGo t u (Marker x) × (l ≡ x.list) × (l < MAX_LISTS) × (q ≡ p)
+TakesHead t u lists p q m c room (Skipped l) =
+    (s : SampleParts) × LetsGo t u (Sample s) × (l ≡ s.list) × LetsPass lists l false × (q ≡ p)
+TakesHead t u lists p q m c room (Wrote l len) =
+    (s : SampleParts) × LetsGo t u (Sample s) × (l ≡ s.list) × LetsPass lists l true
+    × LaysOut p q s (origin.Sample m c l) len room
 
 -- what is kept of the lists behind a step
 abbrev pub Notes : List ListIntake → List ListIntake → Step → Type 0

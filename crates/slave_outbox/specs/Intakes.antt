@@ -1,15 +1,14 @@
 -- What contracts see of an intake, and what it stands after.
 use Rattle.std.specs.Prelude.{◌≡◌, ℕ, ◌<◌, ◌≤◌, List, ◌∷◌, length, slice_get, Some}
-use mathlib.Core.List.{IsPrefix}
 use Rattle.xcp_base.specs.declared.limits.TheConstants.{MAX_LISTS, MAX_TAKEN}
-use Rattle.channel_ring.specs.declared.ends.TakeEnd.{Ghosts as TakeGhosts}
+use Rattle.frame_ring.specs.Ends.{LooksForItems, TakeState}
 use Rattle.transmitter.specs.Items.{count_of}
 use Rattle.slave_outbox.specs.Deeds.{Deed, marks_of, passed, runs, stops_of, taken, unsent_of}
 use Rattle.slave_outbox.specs.declared.list_intake.ListIntake.{ListIntake}
 
 -- the take end of the ring, and what is kept of each DAQ list
-pub record IntakeState (T : Type 0) : Type 0 where
-  pub end : T
+pub record IntakeState : Type 0 where
+  pub end : TakeState
   pub lists : List ListIntake
 
 -- what is kept of list l behind these deeds
@@ -23,24 +22,18 @@ list_after deeds l = record {
 }
 
 -- an intake stands after these deeds, which are no more than 2^62
-pub record StandsAfter {T E : Type 0} (take : TakeGhosts T E) (i : IntakeState T)
-    (deeds : List Deed)
-    : Type 0 where
+pub record StandsAfter (i : IntakeState) (deeds : List Deed) : Type 0 where
   pub few : length deeds ≤ MAX_TAKEN
-  pub received : take.received i.end ≡ taken deeds
+  pub received : i.end.received ≡ taken deeds
   pub lists : (l : ℕ) → l < MAX_LISTS → slice_get i.lists l ≡ Some (list_after deeds l)
 
 -- whatever the one stands after, short of 2^62 deeds, the other stands after that and this one
-abbrev pub GoesOn :
-    {T E : Type 0} → TakeGhosts T E → IntakeState T → IntakeState T → Deed → Type 0
-GoesOn take a b deed =
-    (deeds : List Deed) → length deeds < MAX_TAKEN → StandsAfter take a deeds
-    → StandsAfter take b (deed ∷ deeds)
+abbrev pub GoesOn : IntakeState → IntakeState → Deed → Type 0
+GoesOn a b deed =
+    (deeds : List Deed) → length deeds < MAX_TAKEN → StandsAfter a deeds
+    → StandsAfter b (deed ∷ deeds)
 
 -- nothing changed but what is known to be in the ring
-pub record OnlyLooked {T E : Type 0} (take : TakeGhosts T E) (a b : IntakeState T)
-    : Type 0 where
+pub record OnlyLooked (a b : IntakeState) : Type 0 where
   pub lists : b.lists ≡ a.lists
-  pub received : take.received b.end ≡ take.received a.end
-  pub known : IsPrefix (take.known a.end) (take.known b.end)
-  pub ring : take.ring b.end ≡ take.ring a.end
+  pub end : LooksForItems a.end b.end

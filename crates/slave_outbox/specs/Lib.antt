@@ -1,4 +1,5 @@
 pub mod Deeds
+pub mod Ends
 pub mod Intakes
 pub mod Steps
 pub mod Accounts

@@ -15,8 +15,8 @@ pub(crate) const MAX_REPLY: usize = 4 + MAX_CTO;
 /// What waits is never more: samples up to the page's end, and replies behind them.
 pub(crate) const MOST: usize = PAGE + MAX_REPLIES * MAX_REPLY;
 
-/// The blocks of the longest sample that finds room.
-pub(crate) const LONGEST: usize = (PAGE + BLOCK - 1) / BLOCK;
+/// The blocks of the longest record that finds room: its head has two.
+pub(crate) const LONGEST: usize = 2 + (PAGE + BLOCK - 1) / BLOCK;
 
 /// The blocks of the page: a sample or a reply takes up three for each five of its bytes at most,
 /// also one of which only the last frame waits; and one more reply finds room.

@@ -7,7 +7,6 @@ ghost use Rattle.slave_outbox.specs.declared.limits.TheConstants.{PAGE};
 use crate::limits::PAGE;
 use crate::outbox::Outbox;
 use crate::{Intake, Step};
-use channel_ring::{ItemTake, TakeEnd};
 
 impl Outbox {
     /// The bytes that samples still find room in: up to the page's end, or none.
@@ -20,14 +19,9 @@ impl Outbox {
     /// Takes the next item of an event channel's ring, if one is there, by its intake. A sample
     /// that passes is laid out behind all that waits, as one of this measurement and event channel,
     /// if its frames end within the page; else it stays in the ring. It takes no memory.
-    pub fn take<T: ItemTake>(
-        &mut self,
-        intake: &mut Intake<T>,
-        measurement: u64,
-        channel: u8,
-    ) -> Step
-        ensures means { TakesItem T.TakeEnd intake.old intake.new self.old self.new
-            measurement channel result }
+    pub fn take(&mut self, intake: &mut Intake, measurement: u64, channel: u8) -> Step
+        ensures means { TakesItem intake.old intake.new self.old self.new measurement channel
+            result }
         ensures shown_stays { self.new.shown ≡ self.old.shown }
     {
         let room = self.room();

@@ -6,11 +6,10 @@ use std::alloc::{AllocError, Global};
 use toml::Table;
 
 /// The keys of a session file.
-const KEYS: [&str; 15] = [
+const KEYS: [&str; 14] = [
     "image_len",
     "id",
     "stamp_size",
-    "ring",
     "unit",
     "ticks",
     "max_cto",

@@ -1,10 +1,7 @@
 use Rattle.std.proofs.Common.{refl}
-use Rattle.c_slave.proofs.OnLemmas.{on_byte_slave, on_slave}
+use Rattle.c_slave.proofs.OnLemmas.{on_slave}
 use Rattle.c_slave.proofs.byte_calls.hang_up_in.Goals as goal
 
 -- what holds of the slave holds of the content that it is
-pub returns-in-Slave : goal.returns-in-Slave
-returns-in-Slave c = on_slave _ _ _ _ c.in-Slave.is (refl, c.hang_up.ensures)
-
-pub returns-in-ByteSlave : goal.returns-in-ByteSlave
-returns-in-ByteSlave c = on_byte_slave _ _ _ _ c.in-ByteSlave.is (refl, c.hang_up-in-ByteSlave.ensures)
+pub returns : goal.returns
+returns c = on_slave _ _ _ c.in-Slave.is (refl, c.hang_up.ensures)

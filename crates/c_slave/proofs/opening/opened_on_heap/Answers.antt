@@ -2,7 +2,6 @@ use Rattle.std.proofs.Common.{subst, sym}
 use Rattle.std.proofs.lemmas.Result.{IfOk-weaker}
 use Rattle.c_slave.specs.declared.content.Content.{Content}
 use Rattle.c_slave.specs.Openings.{IsSlaveOf}
-use Rattle.c_slave.proofs.OnLemmas.{bytes, items}
 use Rattle.c_slave.proofs.opening.opened_on_heap.Goals as goal
 
 -- the slave is in the box
@@ -12,6 +11,6 @@ returns-clause-ok c =
       profile = c.in_ok-profile.profile;
       good = c.in_ok-profile.ensures.ok;
       opened =
-          subst (λ (content : Content). IsSlaveOf items bytes c.in_ok-profile.profile.ring c.in_ok-profile.profile content) (sym is)
+          subst (λ (content : Content). IsSlaveOf c.in_ok-profile.profile content) (sym is)
           c.in_ok-content.ensures.ok;
     }) c.boxed.ensures.ok

@@ -6,7 +6,7 @@ use Rattle.session_file.proofs.player.finish_all.Goals as goal
 
 -- one task more is finished
 pub loop-task-preserved : goal.loop-task-preserved
-loop-task-preserved g c =
+loop-task-preserved c =
     let at = c.loop-task in
     let x = c.in-Some.task in
     let steps : into_iter_items at.task-iterator ≡ x ∷ into_iter_items c.next.new.self = c.in-Some.ensures.steps.0 in (
@@ -20,7 +20,7 @@ loop-task-preserved g c =
 
 -- these are all
 pub returns : goal.returns
-returns g c =
+returns c =
     let at = c.loop-task in
     let none = c.in-None.ensures.steps in
     let empty : into_iter_items at.task-iterator ≡ [] = nothing-left _ (sym at.invariant.2 ∙ none.0) in

@@ -6,4 +6,4 @@ use Rattle.session_file.proofs.playing.open.Goals as goal
 
 -- tasks that were just begun are on the lines of the event channels
 pub returns-in-Ok-clause-tasks : goal.returns-in-Ok-clause-tasks
-returns-in-Ok-clause-tasks g c = ap lines_of c.in-Ok.ensures.tasks ∙ begun-lines _ (rings_of c.in-Ok.slave.channels)
+returns-in-Ok-clause-tasks c = ap lines_of c.in-Ok.ensures.tasks ∙ begun-lines (rings_of c.in-Ok.slave.channels)

@@ -7,8 +7,7 @@ use Rattle.session_file.proofs.playing.play_all.Goals as goal
 
 -- one more line was played
 pub loop-line-preserved : goal.loop-line-preserved
-loop-line-preserved g c =
-    let take = g.R.Take.TakeEnd in
+loop-line-preserved c =
     let was = c.args.player.now in
     let mid = c.loop-line.player in
     let now = c.line.new.self in
@@ -18,9 +17,9 @@ loop-line-preserved g c =
     let one = c.in_ok-line.ensures.does in
     let more : map line_data (first (i + 1) script) ≡ map line_data (first i script) ++ line_data line ∷ [] =
     map_more line_data script i line c.loop-line-test.true ∙ ap (λ w. map line_data (first i script) ++ line_data w ∷ []) (sym c.line-item.is) in
-    let does = does-more take (sending was.slave was.out.contents) (sending mid.slave mid.out.contents) (sending now.slave now.out.contents)
+    let does = does-more (sending was.slave was.out.contents) (sending mid.slave mid.out.contents) (sending now.slave now.out.contents)
     was.refused mid.refused now.refused (map line_data (first i script)) (line_data line ∷ []) c.loop-line.invariant.0 one in (
-      subst (Does take (sending was.slave was.out.contents) (sending now.slave now.out.contents) was.refused now.refused) (sym more) does,
+      subst (Does (sending was.slave was.out.contents) (sending now.slave now.out.contents) was.refused now.refused) (sym more) does,
       let most = one.most in
           let low = c.loop-line.invariant.1 in
           omega (arith, most, low),

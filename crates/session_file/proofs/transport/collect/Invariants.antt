@@ -4,4 +4,4 @@ use Rattle.session_file.proofs.transport.collect.Given as goal
 
 -- what came back so far was collected
 abbrev pub invariant-loop-c : goal.invariant-loop-c
-invariant-loop-c g l = (sent : List ℕ) → Advances g.R.Take.TakeEnd (4 * l.c) (sending l.fn.slave sent) (sending l.slave sent) []
+invariant-loop-c l = (sent : List ℕ) → Advances (4 * l.c) (sending l.fn.slave sent) (sending l.slave sent) []

@@ -6,10 +6,9 @@ use Rattle.session_file.proofs.transport.lose.Goals as goal
 
 -- items are taken, and what is shown changes nothing
 pub returns : goal.returns
-returns g c =
-    let take = g.R.Take.TakeEnd in
+returns c =
     record {
-      shows = λ sent. advances-more take most_taken 0 (sending c.args.slave.now sent) (sending c.take.new.self sent) (sending c.peek.new.self sent) [] []
-          (takes take c.args.slave.now c.take.new.self sent c.take.ensures.takes)
-          (silent take 0 c.take.new.self c.peek.new.self [] sent [] (omega arith) c.peek.ensures.stays refl refl);
+      shows = λ sent. advances-more most_taken 0 (sending c.args.slave.now sent) (sending c.take.new.self sent) (sending c.peek.new.self sent) [] []
+          (takes c.args.slave.now c.take.new.self sent c.take.ensures.takes)
+          (silent 0 c.take.new.self c.peek.new.self [] sent [] (omega arith) c.peek.ensures.stays refl refl);
     }

@@ -8,17 +8,16 @@ use Rattle.session_file.proofs.transport.send.Goals as goal
 
 -- items are taken, and the frames that are shown are sent
 pub returns : goal.returns
-returns g c =
-    let take = g.R.Take.TakeEnd in
+returns c =
     let before = c.args.out.now.contents in
     let after = c.put.new.self.contents in
     let shown = c.peek-len.new.self in
     record {
-      sends = advances-more take most_taken 1 (sending c.args.slave.now before) (sending c.take.new.self before) (sending c.sent.new.self after) [] []
-          (takes take c.args.slave.now c.take.new.self before c.take.ensures.takes)
-          (advances-more take 0 1 (sending c.take.new.self before) (sending shown before) (sending c.sent.new.self after) [] []
-          (silent take 0 c.take.new.self shown [] before [] (omega arith) c.peek-len.ensures.stays refl refl)
-          (sends take shown c.sent.new.self before after
+      sends = advances-more most_taken 1 (sending c.args.slave.now before) (sending c.take.new.self before) (sending c.sent.new.self after) [] []
+          (takes c.args.slave.now c.take.new.self before c.take.ensures.takes)
+          (advances-more 0 1 (sending c.take.new.self before) (sending shown before) (sending c.sent.new.self after) [] []
+          (silent 0 c.take.new.self shown [] before [] (omega arith) c.peek-len.ensures.stays refl refl)
+          (sends shown c.sent.new.self before after
           (c.in-Ok.ensures.taken ∙ ap (λ bs. before ++ bs) c.peek-len.ensures.bytes
           ∙ ap (λ (o : OutboxState). before ++ text o.counter (packets_in (first shown.outbox.shown o.waits))) (sym c.peek-len.ensures.outbox))
           c.sent.ensures.sends));

@@ -3,4 +3,4 @@ use Rattle.slave.proofs.laws.fair_shares.Goals as goal
 
 -- by the turns of both
 pub returns : goal.returns
-returns g c = fair-shares g.R.Take.TakeEnd
+returns c = fair-shares

@@ -3,4 +3,4 @@ use Rattle.slave.proofs.laws.one_slave_one_story.Goals as goal
 
 -- each of these is read off the slave
 pub returns : goal.returns
-returns g c = λ d s a b one other. same-story g.R.Take.TakeEnd d s a b one.parts other.parts
+returns c = λ d s a b one other. same-story d s a b one.parts other.parts

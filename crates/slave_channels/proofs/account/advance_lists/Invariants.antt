@@ -1,5 +1,3 @@
-use Rattle.std.specs.Prelude.{◌≡◌, length}
-use Rattle.xcp_base.specs.declared.limits.TheConstants.{MAX_LISTS}
 use Rattle.slave_channels.specs.AccountInner.{ChangesBelow, advanced}
 use Rattle.slave_channels.proofs.account.advance_lists.Given as goal
 

@@ -6,7 +6,7 @@ use Rattle.slave_channels.proofs.part_discarding.tell.Goals as goal
 
 -- the part of the measurement was told
 pub returns-clause-told : goal.returns-clause-told
-returns-clause-told g c = λ told.
+returns-clause-told c = λ told.
     let was = c.share.inside in
     let number : was.number ≡ c.args.number = omega (arith, c.if-share-number.false) in
     let view = c.share.view_is in
@@ -15,8 +15,8 @@ returns-clause-told g c = λ told.
       next = record { number = was.number; opened = was.opened; intake = c.unsent.new.self };
       before_is = c.in-Some.is;
       after_is = refl;
-      number = ap (λ (s : ShareState _). s.number) (sym view) ∙ number;
+      number = ap (λ (s : ShareState). s.number) (sym view) ∙ number;
       number_stays = number;
-      opened = ap (λ (s : ShareState _). s.opened) view;
-      goes_on = subst (λ (s : ShareState _). GoesOn g.T.TakeEnd s.intake c.unsent.new.self (Unsent c.args.l)) view c.unsent.ensures.goes_on;
+      opened = ap (λ (s : ShareState). s.opened) view;
+      goes_on = subst (λ (s : ShareState). GoesOn s.intake c.unsent.new.self (Unsent c.args.l)) view c.unsent.ensures.goes_on;
     }

@@ -7,7 +7,7 @@ use Rattle.slave_lending.proofs.closing.ends_of.Goals as goal
 
 -- the slots behind these so far are not away
 pub into_end-requires : goal.into_end-requires
-into_end-requires g c =
+into_end-requires c =
     let at = c.loop-slot in
     let x = c.in-Some.slot in
     let steps : into_iter_items at.slot-iterator ≡ x ∷ into_iter_items c.next.new.self = c.in-Some.ensures.steps.0 in
@@ -18,7 +18,7 @@ into_end-requires g c =
 
 -- there is a place for it
 pub push_reserved-requires : goal.push_reserved-requires
-push_reserved-requires g c =
+push_reserved-requires c =
     let at = c.loop-slot in
     let x = c.in-Some.slot in
     let steps : into_iter_items at.slot-iterator ≡ x ∷ into_iter_items c.next.new.self = c.in-Some.ensures.steps.0 in
@@ -28,13 +28,13 @@ push_reserved-requires g c =
 
 -- one is left more
 pub loop-slot-preserved : goal.loop-slot-preserved
-loop-slot-preserved g c =
+loop-slot-preserved c =
     let at = c.loop-slot in
     let x = c.in-Some.slot in
     let steps : into_iter_items at.slot-iterator ≡ x ∷ into_iter_items c.next.new.self = c.in-Some.ensures.steps.0 in (
       append_assoc at.yielded (x ∷ []) _ ∙ rw (← steps) at.invariant.0,
-      subst (AreEndsOf g.S.SendEnd g.S.End.RingEnd (at.yielded ++ x ∷ [])) (sym c.push_reserved.ensures.items)
-          (ends-more g.S.SendEnd g.S.End.RingEnd at.yielded at.ends.items x c.into_end.result at.invariant.1 c.into_end.ensures),
+      subst (AreEndsOf (at.yielded ++ x ∷ [])) (sym c.push_reserved.ensures.items)
+          (ends-more at.yielded at.ends.items x c.into_end.result at.invariant.1 c.into_end.ensures),
       let was = at.invariant.2 in
           let gone = c.in-Some.ensures.steps.1 in
           let short = ap length steps in
@@ -45,9 +45,9 @@ loop-slot-preserved g c =
 
 -- these are all
 pub returns : goal.returns
-returns g c =
+returns c =
     let at = c.loop-slot in
     let none = c.in-None.ensures.steps in
     let empty : into_iter_items at.slot-iterator ≡ [] = nothing-left _ (sym at.invariant.2 ∙ none.0) in
     let all = sym (append-nil at.yielded) ∙ rw empty at at.invariant.0 ∙ c.into_iter-slot-iterator.ensures.into_iter_gives.0 in
-    subst (λ xs. AreEndsOf g.S.SendEnd g.S.End.RingEnd xs at.ends.items) all at.invariant.1
+    subst (λ xs. AreEndsOf xs at.ends.items) all at.invariant.1

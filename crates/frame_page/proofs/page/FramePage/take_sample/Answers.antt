@@ -6,6 +6,7 @@ use Rattle.std.specs.Vec.{with_items}
 use Rattle.xcp_base.specs.Samples.{SampleParts}
 use Rattle.xcp_base.specs.declared.item.Item.{Item}
 use Rattle.xcp_base.specs.declared.item.Item.TheVariants.{Sample}
+use Rattle.frame_ring.specs.Heads.{item_head}
 use Rattle.frame_ring.specs.Records.{IsItem, cost, record_of}
 use Rattle.frame_ring.specs.States.{take_state}
 use mathlib.Core.List.{IsPrefix}
@@ -86,6 +87,7 @@ returns g c =
     record {
       sample = sample;
       is_item = subst IsItem (told g w).is t.is_item;
+      told = t.head_is ∙ ap item_head (told g w).is;
       received = t.received ∙ ap (λ x. (take_state c.args.ring.now).received ++ x ∷ []) (told g w).is;
       first = subst (λ x. IsPrefix (take_state c.args.ring.now).known (x ∷ (take_state c.take.new.self).known)) (told g w).is t.first;
       ring = t.ring;

@@ -2,14 +2,14 @@ use Rattle.slave.proofs.GatheringLemmas.{one-busy, one-newer, one-older}
 use Rattle.slave.proofs.slave.Slave.back_at.Goals as goal
 
 pub returns-in-Some-clause-one : goal.returns-in-Some-clause-one
-returns-in-Some-clause-one g c =
-    one-older g.R.Send.SendEnd g.R.Send.End.RingEnd g.R.Take.TakeEnd c.args.self.now c.take_older.new.self c.args.c c.in-Some.finished c.in-Some.ensures.there
+returns-in-Some-clause-one c =
+    one-older c.args.self.now c.take_older.new.self c.args.c c.in-Some.finished c.in-Some.ensures.there
 
 pub returns-then-not-is_over-clause-one : goal.returns-then-not-is_over-clause-one
-returns-then-not-is_over-clause-one g c =
-    one-busy g.R.Send.SendEnd g.R.Send.End.RingEnd g.R.Take.TakeEnd c.args.self.now c.take_older.new.self c.args.c c.in_default.ensures.there c.take_older.ensures.back.session
+returns-then-not-is_over-clause-one c =
+    one-busy c.args.self.now c.take_older.new.self c.args.c c.in_default.ensures.there c.take_older.ensures.back.session
     (c.is_over.ensures.busy c.if-not-is_over.true)
 
 pub returns-clause-one : goal.returns-clause-one
-returns-clause-one g c =
-    one-newer g.R.Send.SendEnd g.R.Send.End.RingEnd g.R.Take.TakeEnd c.args.self.now c.take_older.new.self c.take_newer.new.self c.args.c c.take_newer.result c.in_default.ensures.there c.take_newer.ensures.there
+returns-clause-one c =
+    one-newer c.args.self.now c.take_older.new.self c.take_newer.new.self c.args.c c.take_newer.result c.in_default.ensures.there c.take_newer.ensures.there

@@ -5,20 +5,20 @@ use Rattle.slave.proofs.PreparingLemmas.{are-front, front-many}
 use Rattle.slave.proofs.slave.Slave.can_open.Goals as goal
 
 pub returns-clause-yes : goal.returns-clause-yes
-returns-clause-yes g c = λ is. record {
+returns-clause-yes c = λ is. record {
   sets = first c.len.result c.sets_of-ready.result;
   all = c.all.result;
   are_all = c.all.ensures;
   are = are-front c.args.self.now.session c.all.result c.sets_of-ready.result c.len.result c.sets_of-ready.ensures.sets;
-  as_many = subst (λ (s : SlaveState _ _). length (first c.len.result c.sets_of-ready.result) ≡ length s.channels) c.self.view_is
+  as_many = subst (λ (s : SlaveState). length (first c.len.result c.sets_of-ready.result) ≡ length s.channels) c.self.view_is
       (front-many c.len.result _ _ c.sets_of-ready.result c.len.ensures.value c.sets_of-ready.ensures.many (omega (arith, c.len.ensures.value, c.len.ensures.limit)));
-  have = subst (λ (s : SlaveState _ _). HaveRoom (first c.len.result c.sets_of-ready.result) s.channels) c.self.view_is (c.can_open.ensures.yes is);
+  have = subst (λ (s : SlaveState). HaveRoom (first c.len.result c.sets_of-ready.result) s.channels) c.self.view_is (c.can_open.ensures.yes is);
 }
 
 pub returns-clause-no : goal.returns-clause-no
-returns-clause-no g c = λ is. record {
+returns-clause-no c = λ is. record {
   sets = first c.len.result c.sets_of-ready.result;
   all = c.all.result;
   are = are-front c.args.self.now.session c.all.result c.sets_of-ready.result c.len.result c.sets_of-ready.ensures.sets;
-  none = subst (λ (s : SlaveState _ _). HasFull (first c.len.result c.sets_of-ready.result) s.channels) c.self.view_is (c.can_open.ensures.no is);
+  none = subst (λ (s : SlaveState). HasFull (first c.len.result c.sets_of-ready.result) s.channels) c.self.view_is (c.can_open.ensures.no is);
 }

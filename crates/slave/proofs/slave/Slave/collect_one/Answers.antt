@@ -3,5 +3,5 @@ use Rattle.slave.proofs.CollectingLemmas.{collects-one}
 use Rattle.slave.proofs.slave.Slave.collect_one.Goals as goal
 
 pub returns-clause-collects : goal.returns-clause-collects
-returns-clause-collects g c =
-    collects-one g.R.Take.TakeEnd g.R.Send.End.RingEnd c.args.self.now c.back_at.new.self c.args.c (Some c.in-Some.part) c.in-Some.ensures.back c.in-Some.ensures.acts_stay c.in-Some.ensures.next_stays c.number.ensures.finished
+returns-clause-collects c =
+    collects-one c.args.self.now c.back_at.new.self c.args.c (Some c.in-Some.part) c.in-Some.ensures.back c.in-Some.ensures.acts_stay c.in-Some.ensures.next_stays c.number.ensures.finished

@@ -15,12 +15,12 @@ none-waiting true e is none = absurd (false≢true (sym is ∙ none))
 
 -- something waits
 pub returns-then-not-is_empty-clause-discards : goal.returns-then-not-is_empty-clause-discards
-returns-then-not-is_empty-clause-discards g c =
-    thrown g.R.Take.TakeEnd c.args.self.now c.throw_away.new.self (subst (λ s. s.acts < MOST_ACTS + PER_PACKET) c.self.view_is c.self.invariant.1) c.throw_away.ensures.acts_stay
+returns-then-not-is_empty-clause-discards c =
+    thrown c.args.self.now c.throw_away.new.self (subst (λ s. s.acts < MOST_ACTS + PER_PACKET) c.self.view_is c.self.invariant.1) c.throw_away.ensures.acts_stay
     (subst (λ s. has_waiting s.outbox ≡ true) c.self.view_is (waiting (has_waiting c.self.inside.outbox) c.is_empty.result c.is_empty.ensures.waiting c.if-not-is_empty.true)) c.throw_away.ensures.discards
 
 -- nothing does
 pub returns-else-not-is_empty-clause-discards : goal.returns-else-not-is_empty-clause-discards
-returns-else-not-is_empty-clause-discards g c =
-    not-thrown g.R.Take.TakeEnd c.args.self.now
+returns-else-not-is_empty-clause-discards c =
+    not-thrown c.args.self.now
     (subst (λ s. has_waiting s.outbox ≡ false) c.self.view_is (none-waiting (has_waiting c.self.inside.outbox) c.is_empty.result c.is_empty.ensures.waiting c.if-not-is_empty.false))

@@ -10,26 +10,26 @@ use Rattle.slave.proofs.slave.Slave.gather_all.Goals as goal
 
 -- the end of the task of this event channel is of its line
 pub gather-requires-clause-one_line : goal.gather-requires-clause-one_line
-gather-requires-clause-one_line g c =
+gather-requires-clause-one_line c =
     let inv = c.loop-c.invariant in
     let end = c.index_mut.result.now in
     let many = ends-many c.args.self.now c.args.ends.now.items c.requires.tasks in
-    let inside : c.loop-c.c < length c.loop-c.ends.items = omega (arith, ap length inv.stay, many, c.loop-c-test.true, c.len-c-end.ensures.value, ap (λ (s : SlaveState _ _). length s.channels) c.self.view_is) in
+    let inside : c.loop-c.c < length c.loop-c.ends.items = omega (arith, ap length inv.stay, many, c.loop-c-test.true, c.len-c-end.ensures.value, ap (λ (s : SlaveState). length s.channels) c.self.view_is) in
     let here = read_at c.loop-c.ends.items c.loop-c.c end c.index_mut.ensures.value inside in
     ring-at c.args.self.now.channels c.loop-c.self.channels c.loop-c.c end.ring end.ring inv.collects.goes.0 inv.collects.as_many refl
     (end-at c.args.self.now.channels c.args.ends.now.items c.loop-c.c end c.requires.tasks (ap (λ (xs : List (TaskEndState _)). slice_get xs c.loop-c.c) (sym inv.stay) ∙ here))
 
 pub loop-c-preserved : goal.loop-c-preserved
-loop-c-preserved g c =
+loop-c-preserved c =
     let inv = c.loop-c.invariant in
     let end = c.index_mut.result.now in
     let many = ends-many c.args.self.now c.args.ends.now.items c.requires.tasks in
-    let inside : c.loop-c.c < length c.loop-c.ends.items = omega (arith, ap length inv.stay, many, c.loop-c-test.true, c.len-c-end.ensures.value, ap (λ (s : SlaveState _ _). length s.channels) c.self.view_is) in
+    let inside : c.loop-c.c < length c.loop-c.ends.items = omega (arith, ap length inv.stay, many, c.loop-c-test.true, c.len-c-end.ensures.value, ap (λ (s : SlaveState). length s.channels) c.self.view_is) in
     let here = read_at c.loop-c.ends.items c.loop-c.c end c.index_mut.ensures.value inside in
     record {
       collects =
-          collects-within g.R.Take.TakeEnd (2 * c.loop-c.c + 2) (2 * (c.loop-c.c + 1)) c.args.self.now c.gather.new.self (omega arith)
-          (collects-more g.R.Take.TakeEnd (2 * c.loop-c.c) 2 c.args.self.now c.loop-c.self c.gather.new.self inv.collects c.gather.ensures.collects);
+          collects-within (2 * c.loop-c.c + 2) (2 * (c.loop-c.c + 1)) c.args.self.now c.gather.new.self (omega arith)
+          (collects-more (2 * c.loop-c.c) 2 c.args.self.now c.loop-c.self c.gather.new.self inv.collects c.gather.ensures.collects);
       first =
           gathers-more c.loop-c.c c.args.ends.now.items end c.args.self.now c.loop-c.self c.gather.new.self (ap (λ (xs : List (TaskEndState _)). slice_get xs c.loop-c.c) (sym inv.stay) ∙ here)
           inv.collects.session inv.first c.gather.ensures.gathers;

@@ -14,7 +14,7 @@ not-false false e = absurd (false≢true (sym e))
 
 -- what isn't kept came back
 pub returns : goal.returns
-returns g c = record {
-  yes = λ is. subst (λ (s : SlaveState _ _). KeepsNoneWithin c.args.from c.args.to s.channels) c.self.view_is (c.has_parts_within.ensures.none (not-true c.has_parts_within.result is));
-  no = λ is. subst (λ (s : SlaveState _ _). KeepsOneWithin c.args.from c.args.to s.channels) c.self.view_is (c.has_parts_within.ensures.some (not-false c.has_parts_within.result is));
+returns c = record {
+  yes = λ is. subst (λ (s : SlaveState). KeepsNoneWithin c.args.from c.args.to s.channels) c.self.view_is (c.has_parts_within.ensures.none (not-true c.has_parts_within.result is));
+  no = λ is. subst (λ (s : SlaveState). KeepsOneWithin c.args.from c.args.to s.channels) c.self.view_is (c.has_parts_within.ensures.some (not-false c.has_parts_within.result is));
 }

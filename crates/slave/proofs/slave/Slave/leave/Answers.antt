@@ -4,9 +4,9 @@ use Rattle.slave.proofs.slave.Slave.leave.Goals as goal
 
 -- the part isn't kept
 pub returns-then-not-unsent : goal.returns-then-not-unsent
-returns-then-not-unsent g c = record {
+returns-then-not-unsent c = record {
   leaves =
-      told-late g.R.Take.TakeEnd c.args.origin c.in-Sample.number c.in-Sample.c c.in-Sample.list c.in-Some.l c.args.self.now
+      told-late c.args.origin c.in-Sample.number c.in-Sample.c c.in-Sample.list c.in-Some.l c.args.self.now
       (record {
         session = c.self.inside.session;
         outbox = c.self.inside.outbox;

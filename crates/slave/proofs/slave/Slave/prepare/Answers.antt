@@ -6,31 +6,31 @@ use Rattle.slave.proofs.PreparingLemmas.{if-err, looks-in-vain, none-prepare, on
 use Rattle.slave.proofs.slave.Slave.prepare.Goals as goal
 
 pub returns-then-is_empty-clause-ok : goal.returns-then-is_empty-clause-ok
-returns-then-is_empty-clause-ok g c = none-prepare g.R.Take.TakeEnd c.args.self.now c.args.lists (c.is_empty.ensures.none c.if-is_empty.true)
+returns-then-is_empty-clause-ok c = none-prepare c.args.self.now c.args.lists (c.is_empty.ensures.none c.if-is_empty.true)
 
 pub returns-then-not-stands-clause-err : goal.returns-then-not-stands-clause-err
-returns-then-not-stands-clause-err g c =
+returns-then-not-stands-clause-err c =
     let profile = subst (λ s. s.session.store.profile ≡ lists_of s.session.profile) c.self.view_is (ap (λ s. s.profile) (sym c.store.ensures.value) ∙ c.store.ensures.profile) in
     let found = c.stands.ensures.no c.if-not-stands.true in
-    other-in-vain g.R.Take.TakeEnd c.args.self.now c.args.lists found.0 (c.is_idle.ensures.busy c.if-is_idle.false) profile found.1 found.2
+    other-in-vain c.args.self.now c.args.lists found.0 (c.is_idle.ensures.busy c.if-is_idle.false) profile found.1 found.2
     (λ same. found.3 (subst (λ z. IsSame c.self.inside.plan z found.0) (sym c.store.ensures.value) (subst (λ s. IsSame s.plan s.session.store found.0) (sym c.self.view_is) same)))
 
 pub returns-clause-ok : goal.returns-clause-ok
-returns-clause-ok g c =
+returns-clause-ok c =
     let profile = subst (λ s. s.session.store.profile ≡ lists_of s.session.profile) c.self.view_is (ap (λ s. s.profile) (sym c.store.ensures.value) ∙ c.store.ensures.profile) in
     on-ok c.start.result _ _
     (λ starts.
-    starts-prepare g.R.Take.TakeEnd c.args.self.now c.start.new.self c.args.lists starts (c.is_idle.ensures.busy c.if-is_idle.false) profile
+    starts-prepare c.args.self.now c.start.new.self c.args.lists starts (c.is_idle.ensures.busy c.if-is_idle.false) profile
     (λ l below one.
     subst (λ s. IsSame s.plan s.session.store l) c.self.view_is (subst (λ z. IsSame c.self.inside.plan z l) c.store.ensures.value (c.stands.ensures.yes c.if-not-stands.false l below one))))
     c.start.ensures.ok
 
 pub returns-clause-err : goal.returns-clause-err
-returns-clause-err g c =
+returns-clause-err c =
     let profile = subst (λ s. s.session.store.profile ≡ lists_of s.session.profile) c.self.view_is (ap (λ s. s.profile) (sym c.store.ensures.value) ∙ c.store.ensures.profile) in
     let some : HasSome c.args.lists = c.is_empty.ensures.some c.if-is_empty.false in
     if-err c.start.result _ _ _ c.start.ensures.busy c.start.ensures.err
     (λ code is looks.
-    looks-in-vain g.R.Take.TakeEnd c.args.self.now c.start.new.self c.args.lists code (c.is_idle.ensures.busy c.if-is_idle.false) is looks some profile
+    looks-in-vain c.args.self.now c.start.new.self c.args.lists code (c.is_idle.ensures.busy c.if-is_idle.false) is looks some profile
     (λ l below one.
     subst (λ s. IsSame s.plan s.session.store l) c.self.view_is (subst (λ z. IsSame c.self.inside.plan z l) c.store.ensures.value (c.stands.ensures.yes c.if-not-stands.false l below one))))

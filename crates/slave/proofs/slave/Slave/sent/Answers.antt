@@ -4,5 +4,5 @@ use Rattle.slave.proofs.WeightLemmas.{fits-of}
 use Rattle.slave.proofs.slave.Slave.sent.Goals as goal
 
 pub returns-clause-sends : goal.returns-clause-sends
-returns-clause-sends g c =
-    sent-of g.R.Take.TakeEnd c.args.self.now _ c.sent.new.self _ c.self.view_is (fits-of c.args.self.now _ c.self.view_is c.self.invariant.1) refl c.sent.ensures.stands
+returns-clause-sends c =
+    sent-of c.args.self.now _ c.sent.new.self _ c.self.view_is (fits-of c.args.self.now _ c.self.view_is c.self.invariant.1) refl c.sent.ensures.stands

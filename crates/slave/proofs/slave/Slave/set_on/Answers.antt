@@ -6,7 +6,7 @@ use Rattle.slave.proofs.PreparingLemmas.{some-set}
 use Rattle.slave.proofs.slave.Slave.set_on.Goals as goal
 
 pub returns : goal.returns
-returns g c =
+returns c =
     let view = ap (λ s. s.session) c.self.view_is in
     record {
       set = record {

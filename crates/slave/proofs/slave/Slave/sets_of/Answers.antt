@@ -7,7 +7,7 @@ use Rattle.slave.proofs.slave.Slave.sets_of.Goals as goal
 
 -- the set of one more event channel
 pub loop-c-preserved : goal.loop-c-preserved
-loop-c-preserved g c =
+loop-c-preserved c =
     let below : c.loop-c.c < MAX_CHANNELS = omega (arith, c.loop-c-test.true) in
     record {
       many = length-set c.loop-c.sets c.loop-c.c c.set_on.result ∙ c.loop-c.invariant.many;
@@ -15,4 +15,4 @@ loop-c-preserved g c =
     }
 
 pub returns-clause-sets : goal.returns-clause-sets
-returns-clause-sets g c = λ k one at. c.loop-c.invariant.are k one (omega (arith, slice_get_within c.loop-c.sets k one at, c.loop-c.invariant.many, c.loop-c-test.false)) at
+returns-clause-sets c = λ k one at. c.loop-c.invariant.are k one (omega (arith, slice_get_within c.loop-c.sets k one at, c.loop-c.invariant.many, c.loop-c-test.false)) at

@@ -5,13 +5,13 @@ use Rattle.slave.proofs.SettleLemmas.{ends-there, goes-there}
 use Rattle.slave.proofs.slave.Slave.settle.Goals as goal
 
 pub returns-then-is_empty-clause-settles : goal.returns-then-is_empty-clause-settles
-returns-then-is_empty-clause-settles g c =
-    ends-there g.R.Take.TakeEnd _ c.stop_all.new.self c.end.new.self c.args.before c.args.now c.difference.result c.difference.ensures
-    (subst (λ xs. IsEach (λ k. StopsAll g.R.Take.TakeEnd c.difference.result) xs c.stop_all.new.self) (ap (λ s. s.channels) c.self.view_is) c.stop_all.ensures.orders)
+returns-then-is_empty-clause-settles c =
+    ends-there _ c.stop_all.new.self c.end.new.self c.args.before c.args.now c.difference.result c.difference.ensures
+    (subst (λ xs. IsEach (λ k. StopsAll c.difference.result) xs c.stop_all.new.self) (ap (λ s. s.channels) c.self.view_is) c.stop_all.ensures.orders)
     (c.is_empty.ensures.none c.if-is_empty.true) c.end.ensures.ends
 
 pub returns-else-is_empty-clause-settles : goal.returns-else-is_empty-clause-settles
-returns-else-is_empty-clause-settles g c =
-    goes-there g.R.Take.TakeEnd _ c.stop_all.new.self c.args.before c.args.now c.difference.result c.difference.ensures
-    (subst (λ xs. IsEach (λ k. StopsAll g.R.Take.TakeEnd c.difference.result) xs c.stop_all.new.self) (ap (λ s. s.channels) c.self.view_is) c.stop_all.ensures.orders)
+returns-else-is_empty-clause-settles c =
+    goes-there _ c.stop_all.new.self c.args.before c.args.now c.difference.result c.difference.ensures
+    (subst (λ xs. IsEach (λ k. StopsAll c.difference.result) xs c.stop_all.new.self) (ap (λ s. s.channels) c.self.view_is) c.stop_all.ensures.orders)
     (c.is_empty.ensures.some c.if-is_empty.false)

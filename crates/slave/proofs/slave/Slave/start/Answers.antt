@@ -4,10 +4,10 @@ use Rattle.slave.proofs.PreparingLemmas.{are-front, front-many, looks-of, starts
 use Rattle.slave.proofs.slave.Slave.start.Goals as goal
 
 pub returns-then-not-can_start-clause-err : goal.returns-then-not-can_start-clause-err
-returns-then-not-can_start-clause-err g c = looks-of c.args.self.now _ c.can_start.new.self c.self.view_is c.can_start.ensures.looked
+returns-then-not-can_start-clause-err c = looks-of c.args.self.now _ c.can_start.new.self c.self.view_is c.can_start.ensures.looked
 
 pub returns-then-not-can_start-clause-busy : goal.returns-then-not-can_start-clause-busy
-returns-then-not-can_start-clause-busy g c = (
+returns-then-not-can_start-clause-busy c = (
   refl,
   record {
     sets = first c.len.result c.sets_of-sets.result;
@@ -17,9 +17,9 @@ returns-then-not-can_start-clause-busy g c = (
 )
 
 pub returns-clause-ok : goal.returns-clause-ok
-returns-clause-ok g c =
+returns-clause-ok c =
     let sets = c.sets_of-sets.ensures.sets in
-    starts-of g.R.Take.TakeEnd c.args.self.now _ c.can_start.new.self c.start_checked.new.self c.args.lists _ c.self.view_is c.can_start.ensures.looked
+    starts-of c.args.self.now _ c.can_start.new.self c.start_checked.new.self c.args.lists _ c.self.view_is c.can_start.ensures.looked
     (are-front c.self.inside.session c.args.lists c.sets_of-sets.result c.len.result (subst (λ s. AreSets s c.args.lists c.sets_of-sets.result) (sym (ap (λ s. s.session) c.self.view_is)) sets))
     (front-many c.len.result _ _ c.sets_of-sets.result (c.len.ensures.value ∙ sym c.can_start.ensures.looked.as_many) c.sets_of-sets.ensures.many (omega (arith, c.len.ensures.value, c.len.ensures.limit, c.can_start.ensures.looked.as_many)))
     (c.can_start.ensures.yes c.if-not-can_start.false) c.start_checked.ensures.starts

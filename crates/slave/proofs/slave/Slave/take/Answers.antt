@@ -9,66 +9,66 @@ use Rattle.slave.proofs.TakingLemmas.{takes-more, takes-within}
 use Rattle.slave.proofs.slave.Slave.take.Goals as goal
 
 pub loop-rounds-init : goal.loop-rounds-init
-loop-rounds-init g c =
-    let begins_at : _ = ap (λ (s : SlaveState _ _). s.next) c.self.view_is ∙ c.let_go.ensures.keeps.next in
-    record { takes = c.let_go.ensures.takes; few = omega arith; went = inl refl; first = inl refl; begins = inl (refl, begins_at); goes = c.let_go.ensures.goes; fair = inl (no-rounds g.R.Take.TakeEnd c.args.self.now c.let_go.new.self c.let_go.ensures.keeps) }
+loop-rounds-init c =
+    let begins_at : _ = ap (λ (s : SlaveState). s.next) c.self.view_is ∙ c.let_go.ensures.keeps.next in
+    record { takes = c.let_go.ensures.takes; few = omega arith; went = inl refl; first = inl refl; begins = inl (refl, begins_at); goes = c.let_go.ensures.goes; fair = inl (no-rounds c.args.self.now c.let_go.new.self c.let_go.ensures.keeps) }
 
 -- one round more
 pub loop-rounds-preserved : goal.loop-rounds-preserved
-loop-rounds-preserved g c =
+loop-rounds-preserved c =
     let more : c.loop-rounds.rounds < 1024 = c.loop-rounds-test.true in
     let was = c.loop-rounds.invariant.takes.counted in
     let is = c.round-round.ensures.takes.counted in
     record {
       takes =
-          takes-within g.R.Take.TakeEnd (1024 * MAX_CHANNELS + MAX_CHANNELS * c.loop-rounds.rounds + MAX_CHANNELS) (1024 * MAX_CHANNELS + MAX_CHANNELS * (c.loop-rounds.rounds + 1))
+          takes-within (1024 * MAX_CHANNELS + MAX_CHANNELS * c.loop-rounds.rounds + MAX_CHANNELS) (1024 * MAX_CHANNELS + MAX_CHANNELS * (c.loop-rounds.rounds + 1))
           c.args.self.now c.round-round.new.self (omega arith)
-          (takes-more g.R.Take.TakeEnd (1024 * MAX_CHANNELS + MAX_CHANNELS * c.loop-rounds.rounds) MAX_CHANNELS c.args.self.now c.loop-rounds.self c.round-round.new.self
+          (takes-more (1024 * MAX_CHANNELS + MAX_CHANNELS * c.loop-rounds.rounds) MAX_CHANNELS c.args.self.now c.loop-rounds.self c.round-round.new.self
           c.loop-rounds.invariant.takes c.round-round.ensures.takes);
       few = omega (arith, more);
       went = inr (
         refl,
-        went-more g.R.Take.TakeEnd c.args.self.now c.loop-rounds.self c.round-round.new.self c.loop-rounds.begin c.loop-rounds.rounds c.round-round.result c.round-round.ensures.ends
+        went-more c.args.self.now c.loop-rounds.self c.round-round.new.self c.loop-rounds.begin c.loop-rounds.rounds c.round-round.result c.round-round.ensures.ends
             (c.is_last.ensures.no c.if-is_last.false) (omega (arith, was)) (omega (arith, is)) c.loop-rounds.invariant.went,
       );
-      first = inr (next-first g.R.Take.TakeEnd c.loop-rounds.self c.round-round.new.self c.loop-rounds.begin c.round-round.result c.round-round.ensures.ends (c.is_last.ensures.no c.if-is_last.false));
+      first = inr (next-first c.loop-rounds.self c.round-round.new.self c.loop-rounds.begin c.round-round.result c.round-round.ensures.ends (c.is_last.ensures.no c.if-is_last.false));
       begins = inr (omega arith, refl);
-      goes = gone-still g.R.Take.TakeEnd c.args.self.now c.loop-rounds.self c.round-round.new.self c.round-round.ensures.older (omega (arith, is)) c.loop-rounds.invariant.goes;
+      goes = gone-still c.args.self.now c.loop-rounds.self c.round-round.new.self c.round-round.ensures.older (omega (arith, is)) c.loop-rounds.invariant.goes;
       fair =
-          fair-goes-on g.R.Take.TakeEnd c.args.self.now c.loop-rounds.self c.round-round.new.self c.loop-rounds.rounds c.loop-rounds.begin c.round-round.result c.round-round.ensures.goes
+          fair-goes-on c.args.self.now c.loop-rounds.self c.round-round.new.self c.loop-rounds.rounds c.loop-rounds.begin c.round-round.result c.round-round.ensures.goes
           (c.is_last.ensures.no c.if-is_last.false) c.loop-rounds.invariant.begins (omega (arith, is)) (c.round-round.ensures.takes.as_many ∙ c.loop-rounds.invariant.takes.as_many) c.loop-rounds.invariant.fair;
     }
 
 pub returns-then-is_last : goal.returns-then-is_last
-returns-then-is_last g c =
+returns-then-is_last c =
     let more : c.loop-rounds.rounds < 1024 = c.loop-rounds-test.true in
     let is = c.round-round.ensures.takes.counted in
     record {
       takes =
-          takes-within g.R.Take.TakeEnd (1024 * MAX_CHANNELS + MAX_CHANNELS * c.loop-rounds.rounds + MAX_CHANNELS) most_taken
+          takes-within (1024 * MAX_CHANNELS + MAX_CHANNELS * c.loop-rounds.rounds + MAX_CHANNELS) most_taken
           c.args.self.now c.round-round.new.self (omega (arith, more))
-          (takes-more g.R.Take.TakeEnd (1024 * MAX_CHANNELS + MAX_CHANNELS * c.loop-rounds.rounds) MAX_CHANNELS c.args.self.now c.loop-rounds.self c.round-round.new.self
+          (takes-more (1024 * MAX_CHANNELS + MAX_CHANNELS * c.loop-rounds.rounds) MAX_CHANNELS c.args.self.now c.loop-rounds.self c.round-round.new.self
           c.loop-rounds.invariant.takes c.round-round.ensures.takes);
-      lets_go = gone-still g.R.Take.TakeEnd c.args.self.now c.loop-rounds.self c.round-round.new.self c.round-round.ensures.older (omega (arith, is)) c.loop-rounds.invariant.goes;
+      lets_go = gone-still c.args.self.now c.loop-rounds.self c.round-round.new.self c.round-round.ensures.older (omega (arith, is)) c.loop-rounds.invariant.goes;
       through =
-          through-last g.R.Take.TakeEnd c.args.self.now c.loop-rounds.self c.round-round.new.self c.loop-rounds.begin c.round-round.result c.round-round.ensures.ends (c.is_last.ensures.yes c.if-is_last.true);
+          through-last c.args.self.now c.loop-rounds.self c.round-round.new.self c.loop-rounds.begin c.round-round.result c.round-round.ensures.ends (c.is_last.ensures.yes c.if-is_last.true);
       fair =
-          fair-last g.R.Take.TakeEnd c.args.self.now c.loop-rounds.self c.round-round.new.self c.loop-rounds.rounds c.loop-rounds.begin c.round-round.result c.round-round.ensures.goes
-          (c.is_last.ensures.yes c.if-is_last.true) (next-empty g.R.Take.TakeEnd c.loop-rounds.self c.round-round.new.self c.loop-rounds.begin c.round-round.result c.round-round.ensures.ends)
+          fair-last c.args.self.now c.loop-rounds.self c.round-round.new.self c.loop-rounds.rounds c.loop-rounds.begin c.round-round.result c.round-round.ensures.goes
+          (c.is_last.ensures.yes c.if-is_last.true) (next-empty c.loop-rounds.self c.round-round.new.self c.loop-rounds.begin c.round-round.result c.round-round.ensures.ends)
           c.loop-rounds.invariant.begins (omega (arith, is)) (c.round-round.ensures.takes.as_many ∙ c.loop-rounds.invariant.takes.as_many) c.loop-rounds.invariant.fair;
     }
 
 pub returns : goal.returns
-returns g c =
+returns c =
     let few = c.loop-rounds.invariant.few in
     let done = c.loop-rounds-test.false in
     record {
-      takes = takes-within g.R.Take.TakeEnd (1024 * MAX_CHANNELS + MAX_CHANNELS * c.loop-rounds.rounds) most_taken c.args.self.now c.loop-rounds.self (omega (arith, few)) c.loop-rounds.invariant.takes;
+      takes = takes-within (1024 * MAX_CHANNELS + MAX_CHANNELS * c.loop-rounds.rounds) most_taken c.args.self.now c.loop-rounds.self (omega (arith, few)) c.loop-rounds.invariant.takes;
       lets_go = c.loop-rounds.invariant.goes;
       through =
-          through-many g.R.Take.TakeEnd c.args.self.now c.loop-rounds.self c.loop-rounds.begin c.loop-rounds.rounds (omega (arith, few, done)) c.loop-rounds.invariant.went
+          through-many c.args.self.now c.loop-rounds.self c.loop-rounds.begin c.loop-rounds.rounds (omega (arith, few, done)) c.loop-rounds.invariant.went
           (next-many c.loop-rounds.rounds c.loop-rounds.self.next (omega (arith, done)) c.loop-rounds.invariant.first) c.loop-rounds.invariant.fair;
       fair =
-          fair-many g.R.Take.TakeEnd c.args.self.now c.loop-rounds.self c.loop-rounds.rounds (omega (arith, done))
+          fair-many c.args.self.now c.loop-rounds.self c.loop-rounds.rounds (omega (arith, done))
           (next-many c.loop-rounds.rounds c.loop-rounds.self.next (omega (arith, done)) c.loop-rounds.invariant.first) c.loop-rounds.invariant.fair;
     }

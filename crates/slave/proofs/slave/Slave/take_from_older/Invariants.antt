@@ -6,12 +6,12 @@ use Rattle.slave.proofs.slave.Slave.take_from_older.Given as goal
 
 -- so many items were taken at most, the ring was looked at so many times, and nothing was taken of the newest part
 abbrev pub invariant-loop-taken : goal.invariant-loop-taken
-invariant-loop-taken g l = record {
-  takes : TakesItems g.R.Take.TakeEnd l.taken l.fn.self l.self;
+invariant-loop-taken l = record {
+  takes : TakesItems l.taken l.fn.self l.self;
   keeps : KeepsNewest l.fn.self l.self;
-  looks : OlderSoFar g.R.Take.TakeEnd l.taken l.fn.self l.self l.c;
+  looks : OlderSoFar l.taken l.fn.self l.self l.c;
   few : l.taken ≤ 1024;
 }
 
 abbrev pub decreases-loop-taken : goal.decreases-loop-taken
-decreases-loop-taken g l = 1024 - l.taken
+decreases-loop-taken l = 1024 - l.taken

@@ -6,11 +6,11 @@ use Rattle.slave.proofs.FinishingLemmas.{gives-older}
 use Rattle.slave.proofs.slave.Slave.take_older.Goals as goal
 
 pub returns : goal.returns
-returns g c = record {
+returns c = record {
   back =
-      gives-older g.R.Send.SendEnd g.R.Send.End.RingEnd g.R.Take.TakeEnd c.args.self.now _ c.take_older-part.new.self c.note.new.account c.args.c c.take_older-part.result c.self.view_is c.note.ensures
+      gives-older c.args.self.now _ c.take_older-part.new.self c.note.new.account c.args.c c.take_older-part.result c.self.view_is c.note.ensures
       (subst (λ xs. c.args.c < length xs) (sym (ap (λ s. s.channels) c.self.view_is)) c.requires.channel) c.take_older-part.ensures.back;
-  there = subst (λ (s : SlaveState _ _). IsOnlyAt (GivesBackOlder g.R.Send.SendEnd g.R.Send.End.RingEnd g.R.Take.TakeEnd c.take_older-part.result) c.args.c s.channels c.take_older-part.new.self) c.self.view_is c.take_older-part.ensures.back;
+  there = subst (λ (s : SlaveState). IsOnlyAt (GivesBackOlder c.take_older-part.result) c.args.c s.channels c.take_older-part.new.self) c.self.view_is c.take_older-part.ensures.back;
   acts_stay = ap (λ s. s.acts) c.self.view_is;
   next_stays = ap (λ s. s.next) c.self.view_is;
 }

@@ -5,21 +5,21 @@ use Rattle.slave.proofs.TakingLemmas.{takes-nothing, takes-within, took-one}
 use Rattle.slave.proofs.slave.Slave.take_one.Goals as goal
 
 pub returns-then-is_spent : goal.returns-then-is_spent
-returns-then-is_spent g c = record {
-  takes = takes-within g.R.Take.TakeEnd 0 1 c.args.self.now c.args.self.now (omega arith) (takes-nothing g.R.Take.TakeEnd c.args.self.now);
-  looks = looks-not g.R.Take.TakeEnd c.args.self.now c.args.c (sym c.is_spent.ensures ∙ c.if-is_spent.true);
+returns-then-is_spent c = record {
+  takes = takes-within 0 1 c.args.self.now c.args.self.now (omega arith) (takes-nothing c.args.self.now);
+  looks = looks-not c.args.self.now c.args.c (sym c.is_spent.ensures ∙ c.if-is_spent.true);
   older = λ k. refl;
 }
 
 pub returns : goal.returns
-returns g c = record {
+returns c = record {
   takes =
-      took-one g.R.Take.TakeEnd c.args.self.now _ c.take-step.new.self c.take-step.new.outbox c.args.c c.acts_of.result c.take-step.result c.self.view_is c.self.invariant.1 (sym c.is_spent.ensures ∙ c.if-is_spent.false) c.acts_of.ensures.value
+      took-one c.args.self.now _ c.take-step.new.self c.take-step.new.outbox c.args.c c.acts_of.result c.take-step.result c.self.view_is c.self.invariant.1 (sym c.is_spent.ensures ∙ c.if-is_spent.false) c.acts_of.ensures.value
       (subst (λ xs. c.args.c < length xs) (sym (ap (λ s. s.channels) c.self.view_is)) c.requires.channel) c.take-step.ensures.shown_stays c.take-step.ensures.takes;
   looks =
-      looks-once g.R.Take.TakeEnd c.args.self.now _ c.take-step.new.self c.take-step.new.outbox c.args.c c.acts_of.result c.take-step.result c.self.view_is c.acts_of.ensures.value
+      looks-once c.args.self.now _ c.take-step.new.self c.take-step.new.outbox c.args.c c.acts_of.result c.take-step.result c.self.view_is c.acts_of.ensures.value
       (subst (λ xs. c.args.c < length xs) (sym (ap (λ s. s.channels) c.self.view_is)) c.requires.channel) (sym c.is_spent.ensures ∙ c.if-is_spent.false) c.take-step.ensures.takes;
   older =
-      keeps-others g.R.Take.TakeEnd c.args.self.now _ c.take-step.new.self c.take-step.new.outbox c.args.c c.acts_of.result c.take-step.result c.self.view_is
+      keeps-others c.args.self.now _ c.take-step.new.self c.take-step.new.outbox c.args.c c.acts_of.result c.take-step.result c.self.view_is
       (subst (λ xs. c.args.c < length xs) (sym (ap (λ s. s.channels) c.self.view_is)) c.requires.channel) c.take-step.ensures.takes;
 }

@@ -6,17 +6,17 @@ use Rattle.slave.proofs.TakingLemmas.{takes-nothing, takes-within, took-older}
 use Rattle.slave.proofs.slave.Slave.take_one_older.Goals as goal
 
 pub returns-then-is_spent : goal.returns-then-is_spent
-returns-then-is_spent g c = record { takes = takes-within g.R.Take.TakeEnd 0 1 c.args.self.now c.args.self.now (omega arith) (takes-nothing g.R.Take.TakeEnd c.args.self.now); keeps = keeps-all c.args.self.now; looks = older-not g.R.Take.TakeEnd c.args.self.now c.args.c (sym c.is_spent.ensures ∙ c.if-is_spent.true) }
+returns-then-is_spent c = record { takes = takes-within 0 1 c.args.self.now c.args.self.now (omega arith) (takes-nothing c.args.self.now); keeps = keeps-all c.args.self.now; looks = older-not c.args.self.now c.args.c (sym c.is_spent.ensures ∙ c.if-is_spent.true) }
 
 pub returns : goal.returns
-returns g c = record {
+returns c = record {
   takes =
-      took-older g.R.Take.TakeEnd c.args.self.now _ c.take_from_older-step.new.self c.take_from_older-step.new.outbox c.args.c c.acts_of.result c.take_from_older-step.result c.self.view_is c.self.invariant.1 (sym c.is_spent.ensures ∙ c.if-is_spent.false) c.acts_of.ensures.value
+      took-older c.args.self.now _ c.take_from_older-step.new.self c.take_from_older-step.new.outbox c.args.c c.acts_of.result c.take_from_older-step.result c.self.view_is c.self.invariant.1 (sym c.is_spent.ensures ∙ c.if-is_spent.false) c.acts_of.ensures.value
       (subst (λ xs. c.args.c < length xs) (sym (ap (λ s. s.channels) c.self.view_is)) c.requires.channel) c.take_from_older-step.ensures.shown_stays c.take_from_older-step.ensures.takes;
   keeps =
-      keeps-older g.R.Take.TakeEnd c.args.self.now _ c.take_from_older-step.new.self c.take_from_older-step.new.outbox c.args.c c.acts_of.result c.take_from_older-step.result c.self.view_is
+      keeps-older c.args.self.now _ c.take_from_older-step.new.self c.take_from_older-step.new.outbox c.args.c c.acts_of.result c.take_from_older-step.result c.self.view_is
       (subst (λ xs. c.args.c < length xs) (sym (ap (λ s. s.channels) c.self.view_is)) c.requires.channel) c.take_from_older-step.ensures.takes;
   looks =
-      looks-older g.R.Take.TakeEnd c.args.self.now _ c.take_from_older-step.new.self c.take_from_older-step.new.outbox c.args.c c.acts_of.result c.take_from_older-step.result c.self.view_is
+      looks-older c.args.self.now _ c.take_from_older-step.new.self c.take_from_older-step.new.outbox c.args.c c.acts_of.result c.take_from_older-step.result c.self.view_is
       (subst (λ xs. c.args.c < length xs) (sym (ap (λ s. s.channels) c.self.view_is)) c.requires.channel) c.take_from_older-step.ensures.takes;
 }

@@ -5,7 +5,7 @@ use Rattle.slave.proofs.DiscardingLemmas.{throws-away}
 use Rattle.slave.proofs.slave.Slave.throw_away.Goals as goal
 
 pub returns-clause-discards : goal.returns-clause-discards
-returns-clause-discards g c =
-    throws-away g.R.Take.TakeEnd c.args.self.now c.leave_all.new.self _ c.leave_all.ensures.leaves
-    (ap (λ (s : SlaveState _ _). record s { outbox = c.discard.new.self }) c.self.view_is)
-    (λ sent wait stands. c.discard.ensures.stands sent wait (subst (λ (s : SlaveState _ _). StandsAfter s.outbox sent wait) (sym c.self.view_is) stands))
+returns-clause-discards c =
+    throws-away c.args.self.now c.leave_all.new.self _ c.leave_all.ensures.leaves
+    (ap (λ (s : SlaveState). record s { outbox = c.discard.new.self }) c.self.view_is)
+    (λ sent wait stands. c.discard.ensures.stands sent wait (subst (λ (s : SlaveState). StandsAfter s.outbox sent wait) (sym c.self.view_is) stands))

@@ -2,7 +2,7 @@ use Rattle.slave.proofs.stream.MasterStream.receive.Goals as goal
 
 -- a frame was bad, and then the slave disconnected
 pub returns-in-Err-clause-bad : goal.returns-in-Err-clause-bad
-returns-in-Err-clause-bad g c = λ _. record {
+returns-in-Err-clause-bad c = λ _. record {
   between = c.read.new.slave;
   breaks_off = c.in-Err.ensures.bad;
   disconnects = c.disconnect.ensures.disconnects;

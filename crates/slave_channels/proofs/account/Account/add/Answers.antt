@@ -1,11 +1,11 @@
-use Rattle.std.proofs.Common.{◌≡◌, ◌+◌, ◌<◌, max, subst, sym, ap, ◌∙◌, arith}
-use Rattle.slave_channels.specs.Accounts.{AccountStandsAfter, AccountState, HasEntries, end_of}
+use Rattle.std.proofs.Common.{◌≡◌, ◌+◌, subst, sym, ap, ◌∙◌, arith}
+use Rattle.slave_channels.specs.Accounts.{AccountState, HasEntries}
 use Rattle.slave_channels.proofs.AccountLemmas.{adds}
 use Rattle.slave_channels.proofs.account.Account.add.Goals as goal
 
 -- the lines of the part were added, in its measurement's row
 pub returns : goal.returns
-returns g c = record {
+returns c = record {
   adds = λ entry number small is there entries unsent stands.
       let number_is : entry.number ≡ c.number-number.result = number ∙ sym c.number-number.ensures.number in
       let view = ap (λ (a : AccountState). a.end) c.self.view_is in
@@ -14,7 +14,7 @@ returns g c = record {
       let behind = c.behind-behind.ensures.within (omega (arith, reaches, end_is)) in
       let has = subst (λ account. HasEntries account entries unsent) (sym c.self.view_is) (c.reach.ensures.keeps entries unsent stands.has) in
       record {
-        has = adds _ _ _ c.behind-behind.result c.self.inside.end c.self.inside.lists c.add_lines.new.lists c.add_lines.ensures.adds entry (omega (arith, behind, number_is, view)) is there entries unsent has;
+        has = adds _ c.behind-behind.result c.self.inside.end c.self.inside.lists c.add_lines.new.lists c.add_lines.ensures.adds entry (omega (arith, behind, number_is, view)) is there entries unsent has;
         end_is = omega (arith, view, reaches, stands.end_is, end_is, number_is);
       };
 }

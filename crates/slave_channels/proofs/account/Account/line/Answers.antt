@@ -1,4 +1,4 @@
-use Rattle.std.proofs.Common.{◌≡◌, ℕ, subst, sym, ◌∙◌, arith}
+use Rattle.std.proofs.Common.{subst, sym, ◌∙◌, arith}
 use Rattle.std.proofs.lemmas.Option.{slice_get_within}
 use Rattle.slave_channels.specs.Accounts.{AccountStandsAfter, AreTotals, end_of, sum_before}
 use Rattle.slave_channels.specs.AccountInner.{all_of}

@@ -1,6 +1,6 @@
-use Rattle.std.proofs.Common.{◌≡◌, ℕ, subst, sym, ap, ◌∙◌, arith, nat_eq}
+use Rattle.std.proofs.Common.{subst, sym, ap, ◌∙◌, arith, nat_eq}
 use Rattle.std.proofs.lemmas.Option.{slice_get_within}
-use Rattle.slave_channels.specs.Accounts.{AccountStandsAfter, AccountState, AreTotals, Entry, of_measurement, row}
+use Rattle.slave_channels.specs.Accounts.{AccountStandsAfter, AccountState, Entry, of_measurement, row}
 use Rattle.slave_channels.proofs.SumLemmas.{is-line, of-are, sums-at}
 use Rattle.slave_channels.proofs.account.Account.line_in.Goals as goal
 

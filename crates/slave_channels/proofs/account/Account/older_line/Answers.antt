@@ -1,4 +1,4 @@
-use Rattle.std.proofs.Common.{◌≡◌, ◌-◌, ℕ, subst, sym, ◌∙◌, arith, nat_lt}
+use Rattle.std.proofs.Common.{◌-◌, subst, sym, arith, nat_lt}
 use Rattle.std.proofs.lemmas.Option.{slice_get_within}
 use Rattle.slave_channels.specs.Accounts.{AccountStandsAfter, AreTotals, Entry, before, end_of, sum_before}
 use Rattle.slave_channels.specs.declared.sums.TheConstants.{LAST}

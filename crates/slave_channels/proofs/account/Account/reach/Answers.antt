@@ -1,4 +1,4 @@
-use Rattle.std.proofs.Common.{max, ap, arith}
+use Rattle.std.proofs.Common.{ap, arith}
 use Rattle.slave_channels.specs.Accounts.{AccountState}
 use Rattle.slave_channels.proofs.account.Account.reach.Goals as goal
 

@@ -1,5 +1,5 @@
-use Rattle.std.specs.Prelude.{◌≡◌, ℕ, ◌-◌, ◌≤◌, max, List}
-use Rattle.slave_channels.specs.Accounts.{AccountState, Entry, HasEntries}
+use Rattle.std.specs.Prelude.{◌≡◌, ℕ, ◌-◌, max, List}
+use Rattle.slave_channels.specs.Accounts.{Entry, HasEntries}
 use Rattle.slave_channels.proofs.account.Account.reach.Given as goal
 
 -- it is not past the end, or as it was; and it has what it had

@@ -5,7 +5,7 @@ use Rattle.slave_channels.proofs.channel.Channel.start_checked.Given as goal
 
 -- the starts so far were ordered, and those behind them find places
 abbrev pub invariant-loop-l : goal.invariant-loop-l
-invariant-loop-l g l = record {
-  orders : OrdersAll g.R.Take.TakeEnd l.fn.self l.self (starts_sent (has_list l.lists) l.l) (starts_noted (has_list l.lists) l.l);
+invariant-loop-l l = record {
+  orders : OrdersAll l.fn.self l.self (starts_sent (has_list l.lists) l.l) (starts_noted (has_list l.lists) l.l);
   behind : CanStart l.self.link.newer (from_on l.l (has_list l.lists));
 }

@@ -7,11 +7,11 @@ use Rattle.slave_channels.proofs.channels.Channels.beside.Goals as goal
 
 -- as many as before
 pub invariant_of-self : goal.invariant_of-self
-invariant_of-self g c = subst (λ n. n ≤ MAX_CHANNELS) (sym (length-set c.self.inside.all.items c.args.c c.beside.new.self)) c.self.invariant
+invariant_of-self c = subst (λ n. n ≤ MAX_CHANNELS) (sym (length-set c.self.inside.all.items c.args.c c.beside.new.self)) c.self.invariant
 
 -- it is that channel's line
 pub beside-requires : goal.beside-requires
-beside-requires g c =
+beside-requires c =
     let below = subst (λ xs. c.args.c < length xs) (sym c.self.view_is) c.requires.channel in
     record {
       one_line = sym (c.requires.one_line c.index_mut.result.now
@@ -20,7 +20,7 @@ beside-requires g c =
 
 -- only that channel looked
 pub returns-clause-beside : goal.returns-clause-beside
-returns-clause-beside g c =
+returns-clause-beside c =
     let e = c.beside.ensures in
     only-set _ c.args.c _ _ c.index_mut.result.now c.beside.new.self c.self.view_is c.index_mut.ensures.value c.requires.channel
     (record { all = e.all; no_more = e.no_more; rest = e.rest_stays })

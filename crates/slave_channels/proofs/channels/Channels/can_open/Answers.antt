@@ -6,11 +6,11 @@ use Rattle.slave_channels.proofs.CallLemmas.{full-here, room-all, room-first, ro
 use Rattle.slave_channels.proofs.channels.Channels.can_open.Goals as goal
 
 pub loop-c-init : goal.loop-c-init
-loop-c-init g c = room-first c.args.lists.now c.self.inside.all.items
+loop-c-init c = room-first c.args.lists.now c.self.inside.all.items
 
 -- there is none here
 pub returns-then-not-can_open_one-clause-no : goal.returns-then-not-can_open_one-clause-no
-returns-then-not-can_open_one-clause-no g c = λ _.
+returns-then-not-can_open_one-clause-no c = λ _.
     let view : length c.self.inside.all.items ≡ length c.args.self.now = ap length c.self.view_is in
     let here : c.loop-c.c < length c.self.inside.all.items = omega (arith, c.loop-c-test.true, c.len-c-end.ensures) in
     let within : c.loop-c.c < length c.args.lists.now = omega (arith, here, view, c.requires.lists) in
@@ -20,7 +20,7 @@ returns-then-not-can_open_one-clause-no g c = λ _.
 
 -- there is room here
 pub loop-c-preserved : goal.loop-c-preserved
-loop-c-preserved g c =
+loop-c-preserved c =
     let view : length c.self.inside.all.items ≡ length c.args.self.now = ap length c.self.view_is in
     let here : c.loop-c.c < length c.self.inside.all.items = omega (arith, c.loop-c-test.true, c.len-c-end.ensures) in
     let within : c.loop-c.c < length c.args.lists.now = omega (arith, here, view, c.requires.lists) in
@@ -29,4 +29,4 @@ loop-c-preserved g c =
     (subst (λ n. n ≢ 0 → keeps_two c.index.result.now ≡ false) set (c.can_open_one.ensures.yes c.if-not-can_open_one.false)) c.loop-c.invariant
 
 pub returns-clause-yes : goal.returns-clause-yes
-returns-clause-yes g c = λ _. room-all c.args.lists.now c.self.inside.all.items c.args.self.now c.loop-c.c c.self.view_is (omega (arith, c.loop-c-test.false, c.len-c-end.ensures)) c.loop-c.invariant
+returns-clause-yes c = λ _. room-all c.args.lists.now c.self.inside.all.items c.args.self.now c.loop-c.c c.self.view_is (omega (arith, c.loop-c-test.false, c.len-c-end.ensures)) c.loop-c.invariant

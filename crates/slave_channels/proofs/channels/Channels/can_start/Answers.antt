@@ -10,23 +10,23 @@ use Rattle.slave_channels.proofs.channels.Channels.can_start.Goals as goal
 
 -- as many as before
 pub invariant_of-self : goal.invariant_of-self
-invariant_of-self g c =
+invariant_of-self c =
     let view : length c.self.inside.all.items ≡ length c.args.self.now = ap length c.self.view_is in
     subst (λ n. n ≤ MAX_CHANNELS) (view ∙ sym c.loop-c.invariant.as_many) c.self.invariant
 
 pub invariant_of-self-then-not-can_start_one : goal.invariant_of-self-then-not-can_start_one
-invariant_of-self-then-not-can_start_one g c =
+invariant_of-self-then-not-can_start_one c =
     let view : length c.self.inside.all.items ≡ length c.args.self.now = ap length c.self.view_is in
     let same = length-set c.loop-c.self-inside.all.items c.loop-c.c c.can_start_one.new.channel in
     subst (λ n. n ≤ MAX_CHANNELS) (view ∙ sym c.loop-c.invariant.as_many ∙ sym same) c.self.invariant
 
 -- no channel yet
 pub loop-c-init : goal.loop-c-init
-loop-c-init g c = front-seen (FindsPlaces c.args.lists.now) c.self.inside.all.items c.args.self.now c.self.view_is
+loop-c-init c = front-seen (FindsPlaces c.args.lists.now) c.self.inside.all.items c.args.self.now c.self.view_is
 
 -- there are none at this channel
 pub returns-then-not-can_start_one-clause-no : goal.returns-then-not-can_start_one-clause-no
-returns-then-not-can_start_one-clause-no g c = λ _.
+returns-then-not-can_start_one-clause-no c = λ _.
     let view : length c.self.inside.all.items ≡ length c.args.self.now = ap length c.self.view_is in
     let here : c.loop-c.c < length c.args.self.now = omega (arith, c.loop-c-test.true, c.loop-c.auto.c-end, c.len-c-end.ensures, c.self.inside.all.ok.0, view) in
     let within : c.loop-c.c < length c.args.lists.now = omega (arith, here, c.requires.lists) in
@@ -37,7 +37,7 @@ returns-then-not-can_start_one-clause-no g c = λ _.
 
 -- and the channels behind it are as they were
 pub returns-then-not-can_start_one-clause-looked : goal.returns-then-not-can_start_one-clause-looked
-returns-then-not-can_start_one-clause-looked g c =
+returns-then-not-can_start_one-clause-looked c =
     let view : length c.self.inside.all.items ≡ length c.args.self.now = ap length c.self.view_is in
     let here : c.loop-c.c < length c.args.self.now = omega (arith, c.loop-c-test.true, c.loop-c.auto.c-end, c.len-c-end.ensures, c.self.inside.all.ok.0, view) in
     last-looked c.args.lists.now c.loop-c.c _ c.loop-c.self-inside.all.items c.index_mut.result.now c.can_start_one.new.channel c.index_mut.ensures.value (omega (arith, here, c.loop-c.invariant.as_many))
@@ -45,7 +45,7 @@ returns-then-not-can_start_one-clause-looked g c =
 
 -- one channel more
 pub loop-c-preserved : goal.loop-c-preserved
-loop-c-preserved g c =
+loop-c-preserved c =
     let view : length c.self.inside.all.items ≡ length c.args.self.now = ap length c.self.view_is in
     let here : c.loop-c.c < length c.args.self.now = omega (arith, c.loop-c-test.true, c.loop-c.auto.c-end, c.len-c-end.ensures, c.self.inside.all.ok.0, view) in
     let within : c.loop-c.c < length c.args.lists.now = omega (arith, here, c.requires.lists) in
@@ -56,10 +56,10 @@ loop-c-preserved g c =
 
 -- these are all
 pub returns-clause-yes : goal.returns-clause-yes
-returns-clause-yes g c = λ _.
+returns-clause-yes c = λ _.
     let view : length c.self.inside.all.items ≡ length c.args.self.now = ap length c.self.view_is in
     let all : length c.args.self.now ≤ c.loop-c.c = omega (arith, c.loop-c-test.false, c.loop-c.auto.c-end, c.len-c-end.ensures, c.self.inside.all.ok.0, view) in
     all-find c.args.lists.now c.loop-c.c c.args.self.now c.loop-c.self-inside.all.items c.loop-c.invariant all
 
 pub returns-clause-looked : goal.returns-clause-looked
-returns-clause-looked g c = all-looked c.args.lists.now c.loop-c.c c.args.self.now c.loop-c.self-inside.all.items c.loop-c.invariant
+returns-clause-looked c = all-looked c.args.lists.now c.loop-c.c c.args.self.now c.loop-c.self-inside.all.items c.loop-c.invariant

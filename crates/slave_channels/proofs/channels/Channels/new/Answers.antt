@@ -5,7 +5,7 @@ use Rattle.slave_channels.proofs.channels.Channels.new.Goals as goal
 
 -- none yet
 pub loop-c-init : goal.loop-c-init
-loop-c-init g c = record {
+loop-c-init c = record {
   made = record { rings = []; many = refl; channels_are = search rules; tasks_are = search rules };
   channels_len = search rules;
   tasks_len = search rules;
@@ -15,7 +15,7 @@ loop-c-init g c = record {
 
 -- one more of the same
 pub loop-c-preserved : goal.loop-c-preserved
-loop-c-preserved g c =
+loop-c-preserved c =
     let v = c.loop-c.invariant in
     let xs = c.push_reserved.ensures in
     let ys = c.push_reserved-in-loop-c.ensures in
@@ -29,6 +29,6 @@ loop-c-preserved g c =
 
 -- that is all of them
 pub returns : goal.returns
-returns g c =
+returns c =
     let all : c.loop-c.c ≡ c.args.count = omega (arith, c.loop-c-test.false) in
     subst (λ n. AreNew n c.loop-c.all.items c.loop-c.tasks.items) all c.loop-c.invariant.made

@@ -4,5 +4,5 @@ use Rattle.slave_channels.proofs.channels.Channels.open.Given as goal
 
 -- the channels so far were opened
 abbrev pub invariant-loop-c : goal.invariant-loop-c
-invariant-loop-c g l =
-    IsFront (OpensAt g.R.Send.SendEnd g.R.Send.End.RingEnd g.R.Take.TakeEnd l.store l.number l.caps l.lists) l.c l.fn.self l.self
+invariant-loop-c l =
+    IsFront (OpensAt l.store l.number l.caps l.lists) l.c l.fn.self l.self

@@ -7,17 +7,17 @@ use Rattle.slave_channels.proofs.channels.Channels.take_from_older.Goals as goal
 
 -- as many as before
 pub invariant_of-self : goal.invariant_of-self
-invariant_of-self g c = subst (λ n. n ≤ MAX_CHANNELS) (sym (length-set c.self.inside.all.items c.args.c c.take_from_older.new.self)) c.self.invariant
+invariant_of-self c = subst (λ n. n ≤ MAX_CHANNELS) (sym (length-set c.self.inside.all.items c.args.c c.take_from_older.new.self)) c.self.invariant
 
 -- only that channel was asked
 pub returns : goal.returns
-returns g c =
+returns c =
     let e = c.take_from_older.ensures in
     record {
       takes =
           only-set _ c.args.c _ _ c.index_mut.result.now c.take_from_older.new.self c.self.view_is c.index_mut.ensures.value c.requires.channel
           (record {
-            takes = subst (λ k. TakesOf g.R.Take.TakeEnd k c.index_mut.result.now.older c.take_from_older.new.self.older c.args.outbox.now c.take_from_older.new.outbox c.take_from_older.result) c.at.ensures e.takes;
+            takes = subst (λ k. TakesOf k c.index_mut.result.now.older c.take_from_older.new.self.older c.args.outbox.now c.take_from_older.new.outbox c.take_from_older.result) c.at.ensures e.takes;
             rest = e.rest_stays;
           });
       shown_stays = e.shown_stays;

@@ -6,11 +6,11 @@ use Rattle.slave_channels.proofs.channels.Channels.take_newer.Goals as goal
 
 -- as many as before
 pub invariant_of-self : goal.invariant_of-self
-invariant_of-self g c = subst (λ n. n ≤ MAX_CHANNELS) (sym (length-set c.self.inside.all.items c.args.c c.take_newer.new.self)) c.self.invariant
+invariant_of-self c = subst (λ n. n ≤ MAX_CHANNELS) (sym (length-set c.self.inside.all.items c.args.c c.take_newer.new.self)) c.self.invariant
 
 -- only that channel was asked
 pub returns : goal.returns
-returns g c =
+returns c =
     let e = c.take_newer.ensures in
     record {
       back =

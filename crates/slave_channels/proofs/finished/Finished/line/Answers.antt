@@ -7,11 +7,11 @@ use Rattle.slave_channels.proofs.finished.Finished.line.Goals as goal
 
 -- the line is that of each past to which the sampler may have come
 pub returns-clause-line : goal.returns-clause-line
-returns-clause-line g c =
-    subst (λ f. IfSome c.line.result (HasLine g.R.Send.End.RingEnd g.R.Take.TakeEnd f c.args.l)) c.self.view_is
+returns-clause-line c =
+    subst (λ f. IfSome c.line.result (HasLine f c.args.l)) c.self.view_is
     (some-with (λ line all. λ past deeds is there. all past deeds there is.stands is.plans (is.front deeds there)) c.line.result c.line.ensures.line)
 
 pub returns-clause-nothing : goal.returns-clause-nothing
-returns-clause-nothing g c = λ none.
-    subst (λ f. HasLine g.R.Send.End.RingEnd g.R.Take.TakeEnd f c.args.l (no_line c.args.l)) c.self.view_is
+returns-clause-nothing c = λ none.
+    subst (λ f. HasLine f c.args.l (no_line c.args.l)) c.self.view_is
     (λ past deeds is there. c.line.ensures.nothing none past deeds there is.stands is.plans (is.front deeds there))

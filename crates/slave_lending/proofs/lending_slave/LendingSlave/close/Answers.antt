@@ -7,18 +7,18 @@ use Rattle.slave_lending.proofs.lending_slave.LendingSlave.close.Goals as goal
 
 -- none of the slots is away
 pub ends_of-requires-clause-none_away : goal.ends_of-requires-clause-none_away
-ends_of-requires-clause-none_away g c = subst (λ (s : LendingSlaveState _ _). NoneAway s) (sym c.self.view_is) c.requires.none_away
+ends_of-requires-clause-none_away c = subst (λ (s : LendingSlaveState). NoneAway s) (sym c.self.view_is) c.requires.none_away
 
 -- what is left of the tasks is on the lines of the slots, which are those of the event channels
 pub close-requires : goal.close-requires
-close-requires g c = record {
-  tasks = ends-lines g.R.Send.SendEnd g.R.Send.End.RingEnd c.self.inside.slots.items c.ends_of.result.items c.ends_of.ensures ∙ c.self.invariant.0;
+close-requires c = record {
+  tasks = ends-lines c.self.inside.slots.items c.ends_of.result.items c.ends_of.ensures ∙ c.self.invariant.0;
 }
 
 pub returns : goal.returns
-returns g c = record {
+returns c = record {
   closes =
-      closes-with g.R.Send.SendEnd g.R.Send.End.RingEnd g.R.Take.TakeEnd c.self.inside.slave c.self.inside.stream c.self.inside.slots.items c.args.self c.self.view_is
+      closes-with c.self.inside.slave c.self.inside.stream c.self.inside.slots.items c.args.self c.self.view_is
       c.ends_of.result.items c.close.result.account c.close.result.is_whole c.close.result.complete c.ends_of.ensures c.close.ensures.closes;
   many = c.close.ensures.many;
 }

@@ -1,5 +1,6 @@
 use Rattle.std.proofs.Common.{refl, ap, ◌∙◌, subst, sym}
 use Rattle.std.specs.Prelude.{Some}
+use Rattle.frame_ring.specs.States.{take_state}
 use Rattle.slave_outbox.specs.Deeds.{Unsent}
 use Rattle.slave_outbox.specs.IntakeInner.{threw}
 use Rattle.slave_outbox.specs.Intakes.{GoesOn}
@@ -8,10 +9,9 @@ use Rattle.slave_outbox.proofs.intake.Intake.unsent.Goals as goal
 
 -- this is noted of the list, and nothing of any other
 pub returns-clause-goes_on : goal.returns-clause-goes_on
-returns-clause-goes_on g c =
-    let take = g.T.TakeEnd in
-    subst (λ a. GoesOn take a (record { end = c.self.inside.end; lists = c.set.new.self }) (Unsent c.args.l)) c.self.view_is
-    (goes_on-unsent take (record { end = c.self.inside.end; lists = c.self.inside.lists }) (record { end = c.self.inside.end; lists = c.set.new.self }) c.args.l
+returns-clause-goes_on c =
+    subst (λ a. GoesOn a (record { end = take_state c.self.inside.end; lists = c.set.new.self }) (Unsent c.args.l)) c.self.view_is
+    (goes_on-unsent (record { end = take_state c.self.inside.end; lists = c.self.inside.lists }) (record { end = take_state c.self.inside.end; lists = c.set.new.self }) c.args.l
     (record {
       here = λ x found. c.set.ensures.here ∙ ap Some (c.threw-kept.ensures ∙ ap threw (same_some _ _ (sym c.get.ensures ∙ found)));
       others = c.set.ensures.others;

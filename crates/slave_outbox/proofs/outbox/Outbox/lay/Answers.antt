@@ -1,4 +1,4 @@
-use Rattle.std.proofs.Common.{◌≡◌, ℕ, ◌+◌, List, [], ◌∷◌, ◌++◌, length, refl, ap, ◌∙◌, arith, length-append}
+use Rattle.std.proofs.Common.{◌≡◌, ℕ, ◌+◌, List, [], ◌∷◌, ◌++◌, length, ap, ◌∙◌, arith, length-append}
 use Rattle.frame_writer.specs.Frame.{unnumbered}
 use Rattle.frame_ring.specs.Records.{blocks_for}
 use Rattle.frame_page.specs.Pages.{PageState}
@@ -12,7 +12,8 @@ use Rattle.slave_outbox.proofs.outbox.Outbox.lay.Goals as goal
 pub put_reply-requires-clause-room : goal.put_reply-requires-clause-room
 put_reply-requires-clause-room c =
     let o = c.self.inside in
-    room-blocks o.page o.len o.shown o.log.shown c.self.invariant (4 + length c.args.packet.now) (omega (arith, c.requires.room, c.requires.fits, bytes-waiting o.page o.len o.shown o.log.shown c.self.invariant, ap (λ (x : OutboxState). bytes_in x.waits) c.self.view_is))
+    let more = room-blocks o.page o.len o.shown o.log.shown c.self.invariant (4 + length c.args.packet.now) (omega (arith, c.requires.room, c.requires.fits, bytes-waiting o.page o.len o.shown o.log.shown c.self.invariant, ap (λ (x : OutboxState). bytes_in x.waits) c.self.view_is)) in
+    omega (arith, more)
 
 pub put_reply-requires-clause-place : goal.put_reply-requires-clause-place
 put_reply-requires-clause-place c =
@@ -27,7 +28,7 @@ invariant_of-self c =
     let o = c.self.inside in
     let q = c.args.packet.now in
     outbox_more o.page o.len o.shown o.log.shown c.self.invariant c.put_reply.new.self (record { origin = origin.Reply; packets = q ∷ []; blocks = blocks_for (4 + length q) }) (4 + length q)
-    c.put_reply.ensures (frame_bytes q) refl (omega arith) (omega (arith, c.requires.fits)) (omega (arith, c.requires.room, c.requires.fits, bytes-waiting o.page o.len o.shown o.log.shown c.self.invariant, ap (λ (x : OutboxState). bytes_in x.waits) c.self.view_is))
+    c.put_reply.ensures (frame_bytes q) (omega arith) (omega arith) (omega arith) (omega (arith, c.requires.fits)) (omega (arith, c.requires.room, c.requires.fits, bytes-waiting o.page o.len o.shown o.log.shown c.self.invariant, ap (λ (x : OutboxState). bytes_in x.waits) c.self.view_is))
     (omega (arith, c.self.invariant.samples)) (omega (arith, c.requires.few, replies_laid o.page.waits c.self.invariant.some, ap (λ (x : OutboxState). replies_in x.waits) c.self.view_is))
 
 pub returns : goal.returns
