@@ -135,7 +135,7 @@ static cost measure(ng_slave *slave, ng_task *task, const set *set, int out) {
 static void measure_set(const set *set, int out) {
     static const ng_segment segment = {.len = SEGMENT_BYTES, .events = 1};
     static const ng_profile profile = {.id = NG_ABSOLUTE, .ticks = 1, .unit = 3, .stamp_size = 4,
-                                       .max_cto = 64};
+                                       .max_cto = 64, .max_dto = 64};
     const ng_event event = {.capacity = SAMPLES * set->record};
     ng_slave slave = NG_SLAVE_INIT;
     ng_task task = NG_TASK_INIT;

@@ -56,7 +56,8 @@ static void ask(ng_slave *slave, const uint8_t *packet, uint8_t len) {
 #define ASK(slave, ...) ask(slave, (const uint8_t[]){__VA_ARGS__}, sizeof(const uint8_t[]){__VA_ARGS__})
 
 static void open_slave(struct side *side, unsigned which) {
-    static const ng_profile profile = {.ticks = 1, .unit = 3, .stamp_size = 4, .max_cto = 64};
+    static const ng_profile profile = {.ticks = 1, .unit = 3, .stamp_size = 4, .max_cto = 64,
+                                       .max_dto = 64};
     static const ng_event event = {.capacity = TRIGGERS * RECORD};
     ng_slave *slave = &side->slaves[which];
     ng_segment segments[2] = {{0, 0, side->memory[0].len, 1}, {1, 0, side->memory[1].len, 1}};

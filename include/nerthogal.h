@@ -71,16 +71,18 @@
  * Memory
  *   - A slave with n event channels and their tasks, and with l DAQ lists that have o ODTs and e
  *     entries in all, has at most so many bytes of malloc's. Only tested, by session_test.c:
- *         the slave, from its opening on   54000 + 16000 n + a2l_len
- *         its lists, until they are freed  40 l + 24 o + 16 e
- *         a measurement                    2500 n + 160 l + 100 o + 80 e, and the capacity of each
- *                                          event channel
+ *         the slave, from its opening on   30000 + 16000 n + a2l_len
+ *         its lists, until they are freed  48 l + 24 o + 16 e
+ *         its page, once it has measured   22000 + 18 p: p is the greater of 8192 and the bytes of
+ *                                          the frames of the longest sample so far
+ *         a measurement                    2500 n + 160 l + 100 o + 80 e, and for each event channel
+ *                                          its capacity, and its longest sample
  *   - A measurement that has ended, by DISCONNECT too, is freed where the next one begins, or by
  *     ng_slave_close. A task that took no trigger since, or whose stops found no room, keeps it
  *     longer; then it stands beside the next one. There are never more than two.
  *   - For example, two event channels of 32,768 bytes and 15 lists of 8 ODTs of 15 entries take some
- *     314 kB while they are measured. 16 event channels of 65,536 bytes and 16 lists of 8 ODTs of 32
- *     entries take at most 1.9 MB, and with two measurements 3.3 MB.
+ *     449 kB while they are measured. 16 event channels of 65,536 bytes and 16 lists of 8 ODTs of 32
+ *     entries take at most 2.0 MB, and with two measurements 3.4 MB.
  *
  * No call aborts, and none reads or writes beyond the given lengths, whatever bytes and numbers it
  * is given. */
@@ -115,7 +117,7 @@ extern "C" {
 #define NG_REPLY_BYTES 8u       /* room that the answer to a command needs */
 #define NG_PUMP_BYTES 4352u     /* room that a pump needs: 8 samples of 8 frames of 4 + 64 bytes */
 #define NG_PUMP_ALL_BYTES 544u  /* room that ng_pump_all needs: a sample of 8 frames */
-#define NG_PEEK_BYTES 259u      /* room that a peek never lacks: the longest frame, 4 + 255 bytes */
+#define NG_PEEK_BYTES 8196u     /* room that a peek never lacks: the longest frame, 4 + 8192 bytes */
 #define NG_MAX_NAME 56u         /* bytes of a slave's and of an event channel's name: 0 to 56 */
 
 /* What a call returns: one of the numbers below. */
@@ -225,6 +227,7 @@ typedef struct {
 typedef struct {
     ng_id_kind id;              /* the identification field of each DAQ packet */
     uint16_t ticks;             /* so many units are one tick of a timestamp: not 0 */
+    uint16_t max_dto;           /* MAX_DTO, of DAQ packets: 8 to 8192 bytes */
     uint8_t unit;               /* of a timestamp: 0 to 9, for 1 ns, 10 ns, .. 1 s */
     uint8_t stamp_size;         /* bytes of a timestamp: 1, 2 or 4 */
     uint8_t max_cto;            /* MAX_CTO, of commands and replies: 8 to 255 bytes */
@@ -533,10 +536,10 @@ ng_status ng_sampler_free(ng_sampler *sampler);
  *   NG_IN_USE      *slave isn't empty
  *   NG_BAD_LIMITS  channels is 0 or over NG_MAX_EVENTS, or count 0 or over NG_MAX_SEGMENTS; or
  *                  one of these is out of its limits: of the profile id, ticks, unit, stamp_size,
- *                  max_cto, name (over max_cto - 8 bytes too), a2l_name or epk; of an event channel
- *                  capacity, name or cycle_unit; of a segment len, base with len, its place behind
- *                  the one before it, or events, where one isn't there; a2l_len is 2^32 or more.
- *                  cycle, priority and extension have any value
+ *                  max_cto, max_dto, name (over max_cto - 8 bytes too), a2l_name or epk; of an
+ *                  event channel capacity, name or cycle_unit; of a segment len, base with len, its
+ *                  place behind the one before it, or events, where one isn't there; a2l_len is
+ *                  2^32 or more. cycle, priority and extension have any value
  *   NG_MEMORY      malloc failed
  *   NG_OK          *slave holds the new slave
  *
@@ -609,7 +612,7 @@ ng_status ng_slave_hang_up(ng_slave *slave);
  * frame of a slave the counter rises by one.
  *
  *   NG_EMPTY         *slave is empty
- *   NG_SMALL_BUFFER  buffer_cap is below 4 and the greater of max_cto and 64 (MAX_DTO)
+ *   NG_SMALL_BUFFER  buffer_cap is below 4 and the greater of max_cto and max_dto
  *   NG_OK            the frames stand in the buffer; *len is 0 if nothing waits
  *
  * They are checked in this order. Except on NG_OK, nothing changes. On NG_OK, the bytes after the

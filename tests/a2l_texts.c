@@ -60,7 +60,7 @@ static void write_into(const struct a2l_table *table, size_t size, const char *w
 int main(void) {
     static char file[1 << 16];
     const ng_profile profile = {.id = NG_RELATIVE_WORD, .ticks = 10, .unit = 5, .stamp_size = 2,
-                                .name = "texts"};
+                                .max_cto = 64, .max_dto = 64, .name = "texts"};
     const ng_event events[] = {{.name = "a \"quoted\" one", .cycle = 1, .cycle_unit = 6},
                                {.name = "b", .priority = 7}, {.name = "c"}};
     const ng_memory memory[] = {

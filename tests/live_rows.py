@@ -19,22 +19,29 @@ def values_of(row):
     return {name: cell if name == "state" else float(cell) for name, cell in cells.items()}
 
 
-def look_at_samples(rows, event, times):
-    """Gaps without a mark are between measurements alone; there is no mark without a gap."""
+def look_at_turns(rows, times):
+    """Rows of one event channel, each with the turn of its task and its mark: gaps without a mark are between measurements alone; there is
+    no mark without a gap."""
+    last, unmarked = None, 0
+    for turn, is_marked, row in rows:
+        if last is not None:
+            assert turn > last, f"the turn falls: {row}"
+            is_gap = turn != last + 1
+            assert is_gap or not is_marked, f"a mark without a gap: {row}"
+            unmarked += is_gap and not is_marked
+        last = turn
+    assert unmarked < times, f"{unmarked} gaps without a mark, in {times} measurements"
+
+
+def look_at_samples(rows, event):
+    """Gives the turn of each, and its mark."""
     name = COUNTERS[event]
     stamp = name.replace("counter", "stamp")
-    last, unmarked = None, 0
     for row in rows:
         values = values_of(row)
         assert is_of_one_trigger(values), f"values of more than one trigger: {row}"
         assert values[stamp] == round(float(row["seconds"]) * 1e6), f"another time than its stamp: {row}"
-        if last is not None:
-            assert values[name] > last, f"{name} falls: {row}"
-            is_gap, is_marked = values[name] != last + 1, row["overload"] == "1"
-            assert is_gap or not is_marked, f"a mark without a gap: {row}"
-            unmarked += is_gap and not is_marked
-        last = values[name]
-    assert unmarked < times, f"{unmarked} gaps without a mark, in {times} measurements"
+        yield values[name], row["overload"] == "1", row
 
 
 def look_at_polled(polled, slow):
@@ -55,7 +62,7 @@ def main(path, times="1"):
     kinds = {event: [row for row in rows if row["event"] == event] for event in (*COUNTERS, "polled")}
     assert sum(map(len, kinds.values())) == len(rows), "a row of another event"
     for event in COUNTERS:
-        look_at_samples(kinds[event], event, int(times))
+        look_at_turns(look_at_samples(kinds[event], event), int(times))
     look_at_polled(kinds["polled"], kinds["10 ms"])
     print(*map(len, kinds.values()), sum(row["overload"] == "1" for row in rows))
 

@@ -94,18 +94,19 @@ static void put_if_data(struct text *to, const struct a2l_table *t) {
     static const char *const units[] = {"NS", "US", "MS", "S"};
     const ng_profile *p = t->profile;
     put(to, "/begin IF_DATA XCP\n"
-              "  /begin PROTOCOL_LAYER 0x0101 2000 2000 2000 2000 2000 2000 2000 %u 64\n"
+              "  /begin PROTOCOL_LAYER 0x0101 2000 2000 2000 2000 2000 2000 2000 %u %u\n"
               "    BYTE_ORDER_MSB_LAST ADDRESS_GRANULARITY_BYTE\n"
               "    OPTIONAL_CMD GET_COMM_MODE_INFO\n" COMMANDS(OPTIONAL)
               "  /end PROTOCOL_LAYER\n"
               "  /begin DAQ DYNAMIC 16 %u 0 OPTIMISATION_TYPE_DEFAULT ADDRESS_EXTENSION_FREE\n"
-              "    IDENTIFICATION_FIELD_TYPE_%s GRANULARITY_ODT_ENTRY_SIZE_DAQ_BYTE 63\n"
+              "    IDENTIFICATION_FIELD_TYPE_%s GRANULARITY_ODT_ENTRY_SIZE_DAQ_BYTE %u\n"
               "    OVERLOAD_INDICATION_PID PRESCALER_SUPPORTED\n", p->max_cto,
-        (unsigned)t->event_count, ids[p->id % 3]);
+        p->max_dto, (unsigned)t->event_count, ids[p->id % 3],
+        p->max_dto > 255 ? 255u : p->max_dto - 1u);
     put(to, "    /begin TIMESTAMP_SUPPORTED %u SIZE_%s UNIT_1%.*s%s /end TIMESTAMP_SUPPORTED\n",
         p->ticks, sizes[p->stamp_size % 5], p->unit % 3, "00", units[p->unit / 3 % 4]);
     for (unsigned l = 0; l < NG_MAX_LISTS; l++)
-        put(to, "    /begin DAQ_LIST %u DAQ_LIST_TYPE DAQ MAX_ODT 8 MAX_ODT_ENTRIES 255 "
+        put(to, "    /begin DAQ_LIST %u DAQ_LIST_TYPE DAQ MAX_ODT 124 MAX_ODT_ENTRIES 255 "
                   "/end DAQ_LIST\n", l);
     for (unsigned c = 0; c < t->event_count; c++) {
         put(to, "    /begin EVENT");

@@ -70,7 +70,7 @@ int main(int argc, char **argv) {
     const ng_segment segment = {.base = 0x10000000, .len = memory.len, .events = 1};
     const ng_event event = {.capacity = 4096, .name = "10 ms", .cycle = 10, .cycle_unit = 6};
     ng_profile profile = {.ticks = 1, .unit = 7, .stamp_size = 4, .max_cto = 64,
-                          .name = "first_server"};
+                          .max_dto = 64, .name = "first_server"};
     const struct a2l_table table = {&profile, &segment, &memory, &event, variables, 1, 1, 3,
                                     "127.0.0.1", 5555};
     size_t len = a2l_write(&table, a2l, sizeof a2l, profile.epk);

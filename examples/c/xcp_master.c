@@ -6,9 +6,10 @@
  *   xcp_master --udp PORT [the same]
  *   xcp_master --help
  *
- * It knows no address: names, types, addresses, event channels and conversions are those of the
- * file (a2l_reader.h). Of two or more variables the last is polled, by SHORT_UPLOAD, while the
- * others are measured, each by a DAQ list of its event channel. That goes on until N samples of the
+ * It knows no address: names, types, addresses, event channels, conversions and how many ODTs and
+ * entries a DAQ list may have are those of the file (a2l_reader.h). Of two or more variables the
+ * last is polled, by SHORT_UPLOAD, while the others are measured, each event channel's by a DAQ
+ * list, in as many packets of up to MAX_DTO bytes as they need. That goes on until N samples of the
  * first list came (100), or for N seconds, and as often as is said (once), each time with lists set
  * up anew. It checks what comes: counters rise by one; each reply is to its command; no
  * sample stands outside of a measurement; a sample's packets are whole, and in order.
@@ -64,7 +65,9 @@ static void put(uint8_t *at, unsigned bytes, uint32_t value) {
 
 /* ---- the variables, as the A2L file has them */
 
-enum { VARIABLES = 256, LISTS = 16, MAX_ODT = 8, MAX_ENTRIES = 32 };
+/* Absolute ODT numbers go up to 0x7B, below the overload indication, and a number of entries up to
+ * 255. One variable more may be polled. */
+enum { LISTS = 16, ODTS = 0x7C, ENTRIES = 255, VARIABLES = ODTS * ENTRIES + 1 };
 enum { UNSIGNED, SIGNED, FLOAT };
 
 static const struct type {
@@ -80,9 +83,11 @@ static struct variable {
     const struct type *type;
     uint32_t address;
     uint8_t extension;
-    unsigned event;
-    size_t method, texts; /* its COMPU_METHOD and COMPU_VTAB, or 0 */
-    unsigned list, odt;   /* where it is measured */
+    unsigned event, list; /* list: where it is measured */
+    bool is_linear;       /* whether its value is factor * raw + offset */
+    double factor, offset;
+    int digits;           /* that are shown of it behind the point */
+    size_t texts;         /* its COMPU_VTAB, or 0 */
     uint64_t raw;         /* its value in the sample that came last */
 } variables[VARIABLES];
 
@@ -93,16 +98,14 @@ static struct a2l a2l;
 static char *a2l_bytes;
 static size_t a2l_len;
 
-/* Looks a variable up. Answers whether the file has it. */
-static bool add_variable(const char *name) {
-    size_t block = a2l_block(&a2l, "MEASUREMENT", name);
+/* Takes the variable of a block. */
+static void add_variable(size_t block) {
+    want(count < VARIABLES, "more variables than DAQ lists can have");
     struct variable *v = &variables[count++];
-    want(count < VARIABLES, "too many variables");
-    if (block == 0) {
-        fprintf(stderr, "xcp_master: no such measurement in the A2L file: %s\n", name);
-        return false;
-    }
-    v->name = name;
+    size_t method = a2l_block(&a2l, "COMPU_METHOD", a2l_word(&a2l, block, "MEASUREMENT", 4));
+    const char *factor = a2l_word(&a2l, method, "COEFFS_LINEAR", 1);
+    const char *point = strchr(a2l_word(&a2l, method, "COMPU_METHOD", 4), '.');
+    v->name = a2l_word(&a2l, block, "MEASUREMENT", 1);
     for (size_t t = 0; t < sizeof types / sizeof *types; t++)
         if (strcmp(a2l_word(&a2l, block, "MEASUREMENT", 3), types[t].name) == 0)
             v->type = &types[t];
@@ -110,21 +113,28 @@ static bool add_variable(const char *name) {
     v->address = (uint32_t)strtoul(a2l_word(&a2l, block, "ECU_ADDRESS", 1), NULL, 0);
     v->extension = (uint8_t)strtoul(a2l_word(&a2l, block, "ECU_ADDRESS_EXTENSION", 1), NULL, 0);
     v->event = (unsigned)strtoul(a2l_word(&a2l, block, "DEFAULT_EVENT_LIST", 2), NULL, 0);
-    v->method = a2l_block(&a2l, "COMPU_METHOD", a2l_word(&a2l, block, "MEASUREMENT", 4));
-    v->texts = a2l_block(&a2l, "COMPU_VTAB", a2l_word(&a2l, v->method, "COMPU_TAB_REF", 1));
-    return true;
+    v->is_linear = *factor != 0;
+    v->factor = strtod(factor, NULL);
+    v->offset = strtod(a2l_word(&a2l, method, "COEFFS_LINEAR", 2), NULL);
+    v->digits = point == NULL ? 0 : atoi(point + 1);
+    v->texts = a2l_block(&a2l, "COMPU_VTAB", a2l_word(&a2l, method, "COMPU_TAB_REF", 1));
 }
 
 /* Chooses variables by their names, which commas part; or all. Answers whether there are any, and
  * the file has each. */
 static bool choose(char *names) {
-    const char *name;
-    for (size_t n = 0; names == NULL && (name = a2l_nth(&a2l, "MEASUREMENT", n)) != NULL; n++)
-        if (!add_variable(name)) return false;
+    size_t block = 0;
+    while (names == NULL && (block = a2l_next(&a2l, "MEASUREMENT", block)) != 0)
+        add_variable(block);
     while (names != NULL) {
         char *comma = strchr(names, ',');
         if (comma != NULL) *comma++ = 0;
-        if (!add_variable(names)) return false;
+        block = a2l_block(&a2l, "MEASUREMENT", names);
+        if (block == 0) {
+            fprintf(stderr, "xcp_master: no such measurement in the A2L file: %s\n", names);
+            return false;
+        }
+        add_variable(block);
         names = comma;
     }
     if (count > 1) polled = &variables[--count];
@@ -159,36 +169,47 @@ static double number_of(const struct variable *v) {
 
 /* Prints a value with as many digits behind the point as its conversion says. */
 static void print_value(const struct variable *v) {
-    const char *text = text_of(v), *linear = a2l_word(&a2l, v->method, "COEFFS_LINEAR", 1);
-    const char *point = strchr(a2l_word(&a2l, v->method, "COMPU_METHOD", 4), '.');
+    const char *text = text_of(v);
     double value = number_of(v);
-    if (*linear != 0)
-        value = strtod(linear, NULL) * value
-            + strtod(a2l_word(&a2l, v->method, "COEFFS_LINEAR", 2), NULL);
+    if (v->is_linear) value = v->factor * value + v->offset;
     if (text != NULL) printf("%s", text);
-    else printf("%.*f", point == NULL ? 0 : atoi(point + 1), value);
+    else printf("%.*f", v->digits, value);
 }
 
 /* The name of an event channel. */
 static const char *event_name(unsigned event) {
-    const char *name;
-    for (size_t n = 0; (name = a2l_nth(&a2l, "EVENT", n)) != NULL; n++)
-        if (strtoul(a2l_word(&a2l, a2l_block(&a2l, "EVENT", name), "EVENT", 3), NULL, 0) == event)
-            return name;
+    for (size_t block = 0; (block = a2l_next(&a2l, "EVENT", block)) != 0;)
+        if (strtoul(a2l_word(&a2l, block, "EVENT", 3), NULL, 0) == event)
+            return a2l_word(&a2l, block, "EVENT", 1);
     return "";
+}
+
+/* How many ODTs or entries a list may have: what the file says of its first one, since those that
+ * are allocated are all alike; but no more than there can be. */
+static unsigned limit_of(const char *keyword, unsigned most) {
+    size_t list = a2l_next(&a2l, "DAQ_LIST", 0);
+    unsigned long limit = strtoul(a2l_word(&a2l, list, keyword, 1), NULL, 0);
+    return limit == 0 || limit > most ? most : (unsigned)limit;
 }
 
 /* ---- the samples */
 
 static struct list {
-    unsigned event, odts, first_pid, next; /* next: the ODT whose packet comes next */
-    const char *name;                      /* of the event channel */
+    unsigned event, first_odt, odt_count; /* its ODTs are odts[first_odt] and so on */
+    unsigned first_pid, next;             /* next: the ODT whose packet comes next */
+    const char *name;                     /* of the event channel */
     uint32_t stamp;
     bool marked;
     unsigned long samples;
 } lists[LISTS];
 
-static unsigned list_count;
+static struct odt {
+    unsigned first;                       /* its variables are placed[first] and so on */
+    uint8_t entries;
+} odts[ODTS];
+
+static struct variable *placed[VARIABLES];
+static unsigned list_count, odt_count;
 static bool measures;                  /* between the reply to a start and that to a stop */
 static double tick;                    /* seconds */
 static unsigned long overloads, polls;
@@ -206,9 +227,13 @@ static void print_row(uint32_t stamp, const char *event, const char *mark, unsig
     printf("\n");
 }
 
+static const struct odt *odt_of(unsigned list, unsigned odt) {
+    return &odts[lists[list].first_odt + odt];
+}
+
 static struct list *list_of(unsigned pid) {
     for (unsigned l = 0; l < list_count; l++)
-        if (pid >= lists[l].first_pid && pid < lists[l].first_pid + lists[l].odts)
+        if (pid >= lists[l].first_pid && pid < lists[l].first_pid + lists[l].odt_count)
             return &lists[l];
     fail("a PID of no list");
     return NULL;
@@ -225,15 +250,15 @@ static void take_packet(const uint8_t *packet, unsigned len) {
         list->marked = (packet[0] & 0x80u) != 0;
         list->stamp = (uint32_t)get(packet + 1, 4);
     }
-    for (unsigned v = 0; v < count; v++) {
-        unsigned size = variables[v].type->size;
-        if (&lists[variables[v].list] != list || variables[v].odt != odt) continue;
-        want(at + size <= len, "a sample that is too short");
-        variables[v].raw = get(packet + at, size);
-        at += size;
+    const struct odt *it = odt_of((unsigned)(list - lists), odt);
+    for (unsigned e = 0; e < it->entries; e++) {
+        struct variable *v = placed[it->first + e];
+        want(at + v->type->size <= len, "a sample that is too short");
+        v->raw = get(packet + at, v->type->size);
+        at += v->type->size;
     }
     want(at == len, "a sample that is too long");
-    list->next = (odt + 1) % list->odts;
+    list->next = (odt + 1) % list->odt_count;
     if (list->next != 0) return;
     list->samples++;
     overloads += list->marked;
@@ -245,10 +270,11 @@ static void take_packet(const uint8_t *packet, unsigned len) {
 static int line;                      /* the socket */
 static bool by_stream;
 static int patience = 10000;          /* for a reply, in milliseconds */
-static uint8_t heard[1 << 16];        /* what came and wasn't looked at yet */
+static uint8_t heard[4 + 0xFFFF];     /* what came and wasn't looked at yet; the longest frame */
 static size_t from, to;
 static uint16_t sent, expected;       /* CTR of the next frame, there and here */
 static unsigned max_cto = 8, max_dto; /* bytes of a packet, as the reply to CONNECT says */
+static unsigned max_entry;            /* bytes of an entry, as GET_DAQ_RESOLUTION_INFO says */
 static bool counts;                   /* whether a frame came */
 
 /* Waits for bytes for so many milliseconds. */
@@ -294,6 +320,12 @@ static void send_frame(const uint8_t *packet, unsigned len) {
     want(send_bytes(frame, 4u + len), "sending");
 }
 
+static void refused(uint8_t command, uint8_t error) {
+    char text[64];
+    snprintf(text, sizeof text, "command %02X was refused: error %02X", command, error);
+    fail(text);
+}
+
 /* Sends a command, and waits for its positive reply. Samples that come meanwhile are taken. */
 static const uint8_t *ask(const uint8_t *packet, unsigned len) {
     send_frame(packet, len);
@@ -303,7 +335,7 @@ static const uint8_t *ask(const uint8_t *packet, unsigned len) {
         want(reply != NULL, "no reply");
         if (reply[0] < 0xFE) take_packet(reply, size);
         else {
-            want(reply[0] == 0xFF, "a command was refused");
+            if (reply[0] != 0xFF) refused(packet[0], size > 1 ? reply[1] : 0);
             return reply;
         }
     }
@@ -323,6 +355,8 @@ static void ask_who_is_there(void) {
     want(reply[1] >> 6 == 1, "no overload indication in the PID");
     want(reply[7] >> 6 == 0, "no absolute ODT numbers");
     reply = ASK(0xD9);                   /* GET_DAQ_RESOLUTION_INFO */
+    want(reply[1] == 1, "entries that aren't of bytes");
+    max_entry = reply[2];
     want((reply[5] & 0x07) == 4, "no timestamps of 4 bytes");
     tick = (double)get(reply + 6, 2) / 1e9;
     for (unsigned unit = reply[5] >> 4; unit > 0; unit--) tick *= 10;
@@ -353,53 +387,59 @@ static void fetch(const char *path) {
     }
     char *epk = upload(5, &len);
     want(a2l_read(&a2l, a2l_bytes, a2l_len), "out of memory");
-    const char *name = a2l_nth(&a2l, "MOD_PAR", 0);
-    want(name != NULL, "an A2L file without MOD_PAR");
-    want(strcmp(a2l_word(&a2l, a2l_block(&a2l, "MOD_PAR", name), "EPK", 1), epk) == 0,
-         "the A2L file is of another program");
+    size_t block = a2l_next(&a2l, "MOD_PAR", 0);
+    want(block != 0, "an A2L file without MOD_PAR");
+    want(strcmp(a2l_word(&a2l, block, "EPK", 1), epk) == 0, "the A2L file is of another program");
     free(epk);
 }
 
-/* Gives each variable that is measured a list of its event channel, and an ODT that has room. */
-static void place(void) {
-    unsigned room[LISTS] = {0}, entries[LISTS] = {0};
-    list_count = 0;
+/* Gives the variables that are measured a list for each of their event channels. */
+static void place_in_lists(void) {
     for (unsigned v = 0; v < count; v++) {
-        unsigned l = 0, size = variables[v].type->size;
+        unsigned l = 0;
         while (l < list_count && lists[l].event != variables[v].event) l++;
-        want(l < LISTS, "too many event channels");
-        if (l == list_count) {
-            lists[list_count++] = (struct list){
-                .event = variables[v].event, .odts = 1, .name = event_name(variables[v].event)};
-            room[l] = max_dto - 5;
-        }
-        if (room[l] < size || entries[l] == MAX_ENTRIES) {
-            want(lists[l].odts++ < MAX_ODT, "more variables than a list has room for");
-            room[l] = max_dto - 1;
-            entries[l] = 0;
-        }
-        room[l] -= size;
-        entries[l]++;
+        want(l < LISTS, "more event channels than DAQ lists");
+        if (l == list_count)
+            lists[list_count++] = (struct list){.event = variables[v].event,
+                                                .name = event_name(variables[v].event)};
         variables[v].list = l;
-        variables[v].odt = lists[l].odts - 1;
     }
 }
 
-/* The variables of an ODT, as its entries. */
-static uint8_t entries_of(unsigned list, unsigned odt) {
-    uint8_t n = 0;
-    for (unsigned v = 0; v < count; v++)
-        n += variables[v].list == list && variables[v].odt == odt;
-    return n;
+/* Fills the ODTs of the lists, one after another: a packet has up to MAX_DTO bytes, of which one is
+ * the PID, and in a list's first packet four are the timestamp. */
+static void place(void) {
+    unsigned most_odts = limit_of("MAX_ODT", ODTS), most = limit_of("MAX_ODT_ENTRIES", ENTRIES);
+    unsigned at = 0;
+    place_in_lists();
+    for (unsigned l = 0; l < list_count; l++) {
+        unsigned room = 0;
+        lists[l].first_odt = odt_count;
+        for (unsigned v = 0; v < count; v++) {
+            unsigned size = variables[v].type->size;
+            if (variables[v].list != l) continue;
+            want(size <= max_entry, "a variable that is longer than an entry");
+            if (room < size || odts[odt_count - 1].entries == most) {
+                want(lists[l].odt_count < most_odts && odt_count < ODTS,
+                     "more variables than ODTs have room for");
+                room = max_dto - (lists[l].odt_count++ == 0 ? 5 : 1);
+                odts[odt_count++].first = at;
+            }
+            room -= size;
+            odts[odt_count - 1].entries++;
+            placed[at++] = &variables[v];
+        }
+    }
 }
 
 static void write_odt(unsigned list, unsigned odt) {
+    const struct odt *it = odt_of(list, odt);
     ASK(0xE2, 0, (uint8_t)list, 0, (uint8_t)odt, 0); /* SET_DAQ_PTR */
-    for (unsigned v = 0; v < count; v++) {
-        uint8_t write[8] = {0xE1, 0xFF, (uint8_t)variables[v].type->size, variables[v].extension};
-        put(write + 4, 4, variables[v].address);
-        if (variables[v].list == list && variables[v].odt == odt)
-            ask(write, sizeof write); /* WRITE_DAQ */
+    for (unsigned e = 0; e < it->entries; e++) {
+        const struct variable *v = placed[it->first + e];
+        uint8_t write[8] = {0xE1, 0xFF, (uint8_t)v->type->size, v->extension};
+        put(write + 4, 4, v->address);
+        ask(write, sizeof write); /* WRITE_DAQ */
     }
 }
 
@@ -408,12 +448,12 @@ static void set_up(void) {
     ASK(0xD6);                         /* FREE_DAQ */
     ASK(0xD5, 0, (uint8_t)list_count, 0); /* ALLOC_DAQ */
     for (uint8_t l = 0; l < list_count; l++)
-        ASK(0xD4, 0, l, 0, (uint8_t)lists[l].odts); /* ALLOC_ODT */
+        ASK(0xD4, 0, l, 0, (uint8_t)lists[l].odt_count); /* ALLOC_ODT */
     for (uint8_t l = 0; l < list_count; l++)
-        for (uint8_t k = 0; k < lists[l].odts; k++)
-            ASK(0xD3, 0, l, 0, k, entries_of(l, k)); /* ALLOC_ODT_ENTRY */
+        for (uint8_t k = 0; k < lists[l].odt_count; k++)
+            ASK(0xD3, 0, l, 0, k, odt_of(l, k)->entries); /* ALLOC_ODT_ENTRY */
     for (uint8_t l = 0; l < list_count; l++) {
-        for (unsigned k = 0; k < lists[l].odts; k++) write_odt(l, k);
+        for (unsigned k = 0; k < lists[l].odt_count; k++) write_odt(l, k);
         ASK(0xE0, 0x10, l, 0, (uint8_t)lists[l].event, 0, 1, 0); /* SET_DAQ_LIST_MODE: TIMESTAMP */
         lists[l].first_pid = ASK(0xDE, 2, l, 0)[1]; /* START_STOP_DAQ_LIST: select */
         lists[l].next = 0;
@@ -480,14 +520,15 @@ static void measure(const struct options *o) {
     measures = false;
 }
 
-static void connect_to(int kind, unsigned port) {
-    struct sockaddr_in at = {.sin_family = AF_INET, .sin_port = htons((uint16_t)port)};
-    int room = 4096;
-    by_stream = kind == SOCK_STREAM;
+/* By UDP what finds no room in the socket's buffer is lost, so it is as large as may be; by TCP it
+ * is small where there is a pause, so that samples are dropped soon. */
+static void connect_to(const struct options *o) {
+    struct sockaddr_in at = {.sin_family = AF_INET, .sin_port = htons((uint16_t)o->port)};
+    int room = o->kind == SOCK_STREAM ? 4096 : 1 << 22;
+    by_stream = o->kind == SOCK_STREAM;
     at.sin_addr.s_addr = htonl(INADDR_LOOPBACK);
-    line = socket(AF_INET, kind, 0);
-    /* a small buffer, so that a pause drops samples soon */
-    if (by_stream) setsockopt(line, SOL_SOCKET, SO_RCVBUF, &room, sizeof room);
+    line = socket(AF_INET, o->kind, 0);
+    if (!by_stream || o->pause > 0) setsockopt(line, SOL_SOCKET, SO_RCVBUF, &room, sizeof room);
     want(line >= 0 && connect(line, (struct sockaddr *)&at, sizeof at) == 0, "no connection");
 }
 
@@ -563,7 +604,7 @@ static void print_account(void) {
 
 int main(int argc, char **argv) {
     struct options o = read_options(argc, argv);
-    connect_to(o.kind, o.port);
+    connect_to(&o);
     if (o.record != NULL) record_to(&record, o.record, line, by_stream);
     ask_who_is_there();
     fetch(o.a2l);

@@ -42,6 +42,12 @@
 #define FAST __attribute__((section("fast_vars"))) /* of the task of 1 ms */
 #define SLOW __attribute__((section("slow_vars"))) /* of that of 10 ms */
 
+#ifdef VARIABLES /* a file with others, and with what they need */
+#include VARIABLES
+#else
+
+enum { MAX_CTO = 64, RING = 4096, MOST = 1024 }; /* MOST: bytes of a section, which is copied */
+
 FAST static uint32_t counter, stamp;
 FAST static uint16_t engine_speed;
 FAST static int16_t torque;
@@ -87,9 +93,11 @@ static void compute_slow(uint32_t turn, uint32_t now) {
     state = (uint8_t)(turn / 25 % 4);
 }
 
+#endif
+
 /* ---- what a master is told of them */
 
-enum { TASKS = 2, MAX_CTO = 64, MOST = 1024 /* bytes of a section, which is copied */ };
+enum { TASKS = 2, MAX_DTO = 1400 };
 
 /* The linker knows where a section begins and ends. */
 extern const uint8_t __start_fast_vars[], __stop_fast_vars[];
@@ -99,13 +107,13 @@ static ng_memory memory[TASKS]; /* the sections, where they are */
 static ng_segment segments[TASKS] = {{.base = 0x10000000, .events = 1 << 0},
                                      {.base = 0x20000000, .events = 1 << 1}};
 static const ng_event events[TASKS] = {
-    {.capacity = 4096, .name = "1 ms", .cycle = 1, .cycle_unit = 6, .priority = 1},
-    {.capacity = 4096, .name = "10 ms", .cycle = 10, .cycle_unit = 6}};
+    {.capacity = RING, .name = "1 ms", .cycle = 1, .cycle_unit = 6, .priority = 1},
+    {.capacity = RING, .name = "10 ms", .cycle = 10, .cycle_unit = 6}};
 static ng_profile profile = {.id = NG_ABSOLUTE, .ticks = 1, .unit = 3, .stamp_size = 4,
-                             .max_cto = MAX_CTO, .name = "xcp_server",
+                             .max_cto = MAX_CTO, .max_dto = MAX_DTO, .name = "xcp_server",
                              .a2l_name = "xcp_server"};
 
-static char a2l[1 << 16];
+static char *a2l;
 static size_t a2l_len;
 
 static ng_memory section(const uint8_t *start, const uint8_t *stop) {
@@ -113,7 +121,7 @@ static ng_memory section(const uint8_t *start, const uint8_t *stop) {
 }
 
 /* Finds the sections, and makes the A2L file and the EPK. Answers whether each variable is where
- * its task samples it. */
+ * its task samples it, and the file was made. */
 static bool describe(void) {
     const struct a2l_table table = {
         .profile = &profile, .segments = segments, .memory = memory, .events = events,
@@ -128,8 +136,13 @@ static bool describe(void) {
         fprintf(stderr, "xcp_server: %s is in no section that its task samples\n", wrong->name);
     else if (memory[0].len > MOST || memory[1].len > MOST)
         fprintf(stderr, "xcp_server: a section has more than %d bytes\n", MOST);
-    else a2l_len = a2l_write(&table, a2l, sizeof a2l, profile.epk);
-    return a2l_len > 0 && a2l_len < sizeof a2l;
+    else {
+        a2l_len = a2l_write(&table, NULL, 0, profile.epk);
+        a2l = malloc(a2l_len + 1);
+        if (a2l != NULL) return a2l_write(&table, a2l, a2l_len + 1, profile.epk) == a2l_len;
+        fprintf(stderr, "xcp_server: out of memory\n");
+    }
+    return false;
 }
 
 /* Writes the A2L file. Answers whether all of it was written. */
@@ -254,6 +267,7 @@ static void *run_task(void *argument) {
 
 #define FRAME_BYTES (4 + MAX_CTO) /* of the longest frame of a master, with LEN and CTR */
 #define GUESTS 4       /* connections that may wait, of which no CONNECT came yet */
+#define PAGES 64       /* pages that are sent before the sockets are looked at again */
 #define SILENCE 10000u /* after so many milliseconds a master that is silent may be replaced */
 
 /* A connection of which no CONNECT came yet. */
@@ -280,9 +294,10 @@ struct server {
     uint32_t heard_at;           /* when it was heard last, by now_ms */
     uint8_t heard[2048];         /* bytes that came and weren't taken yet */
     size_t from, to;             /* where they stand */
-    uint8_t page[1400];          /* frames that wait, as the last peek laid them out */
+    uint8_t page[4 + MAX_DTO];   /* frames that wait, as the last peek laid them out */
     size_t gone;                 /* so many bytes of them went out by TCP */
     bool full;                   /* whether the socket had no room for more */
+    bool more;                   /* whether there may be pages that could be sent */
 };
 
 static bool nothing_heard(const struct server *s) { return s->from == s->to; }
@@ -356,11 +371,15 @@ static bool send_stream(struct server *s, size_t len) {
     return true;
 }
 
-/* Sends all that waits, page by page. What a socket refuses waits on: the next peek lays the same
- * frames out first. */
+/* Sends what waits, page by page, but not so much at once that a master isn't heard while samples
+ * come as fast as they go. What a socket refuses waits on: the next peek lays the same frames out
+ * first. */
 static void send_waiting(struct server *s) {
-    while (s->tcp >= 0 || s->by_udp) {
+    s->more = false;
+    for (int pages = 0; s->tcp >= 0 || s->by_udp; pages++) {
         size_t len = 0;
+        s->more = pages == PAGES;
+        if (s->more) return;
         ng_slave_peek(&s->slave, s->page, sizeof s->page, &len);
         if (len == 0) return;
         if (!(s->tcp >= 0 ? send_stream(s, len) : send_datagram(s, len))) return;
@@ -498,7 +517,8 @@ static void empty_bell(void) {
 }
 
 /* Waits until something comes, a trigger or a signal rings, or a socket that was full has room, but
- * for no more than so many milliseconds, if that isn't below 0; and does what is to be done. */
+ * for no more than so many milliseconds, if that isn't below 0, and not where there is more to be
+ * sent; and does what is to be done. */
 static void serve_once(struct server *s, int most) {
     short hears = nothing_heard(s) ? POLLIN : 0, sends = s->full ? POLLOUT : 0;
     struct pollfd sockets[4 + GUESTS] = {
@@ -506,7 +526,7 @@ static void serve_once(struct server *s, int most) {
         {s->tcp, (short)(hears | sends), 0}, {bell[0], POLLIN, 0}};
     for (int g = 0; g < GUESTS; g++)
         sockets[4 + g] = (struct pollfd){s->guests[g].socket, POLLIN, 0};
-    if (poll(sockets, 4 + GUESTS, most) > 0) {
+    if (poll(sockets, 4 + GUESTS, s->more ? 0 : most) > 0) {
         if (sockets[3].revents != 0) empty_bell();
         if (sockets[0].revents & POLLERR) hear_errors(s);
         for (int g = 0; g < GUESTS; g++)
@@ -661,5 +681,6 @@ int main(int argc, char **argv) {
     lose(&s);
     for (int g = 0; g < GUESTS; g++)
         if (s.guests[g].socket >= 0) close(s.guests[g].socket);
+    free(a2l);
     return print_account(&s.slave) && !tasks[0].fault && !tasks[1].fault ? 0 : 1;
 }

@@ -15,10 +15,10 @@ static const ng_memory not_there = NG_NOT_THERE;
 #define NO_MEMORY &not_there, 0
 #define NO_A2L (const uint8_t *)"", 0
 
-#define PAGE 1400
+#define PAGE 9000 /* more than ever waits: samples of 8192 bytes, and 16 replies */
 #define ALL 0xFFFFu
 
-/* In so many looks all that waits is shown: it is less than two pages. */
+/* In so many looks all that waits is shown, though more is taken meanwhile. */
 #define LOOKS 8
 
 static unsigned seed;
@@ -203,7 +203,8 @@ static void lose(ng_slave *slave) {
  * packets, and a stop takes 8. */
 static void open_with(size_t cap, size_t other, ng_slave *slave) {
     ng_profile profile = {
-        .id = NG_ABSOLUTE, .ticks = 1, .unit = 3, .stamp_size = 4, .max_cto = 64, .name = ""};
+        .id = NG_ABSOLUTE, .ticks = 1, .unit = 3, .stamp_size = 4, .max_cto = 64, .max_dto = 64,
+        .name = ""};
     ng_segment segment = {.len = 4, .events = 3};
     ng_event events[2] = {{.name = "e0"}, {.name = "e1"}};
     events[0].capacity = cap;

@@ -42,7 +42,8 @@ static size_t unhex(const char *text, uint8_t *bytes) {
 /* An identification field of one byte, and timestamps of four bytes in microseconds. */
 static ng_profile profile_of(void) {
     ng_profile profile = {
-        .id = NG_ABSOLUTE, .ticks = 1, .unit = 3, .stamp_size = 4, .max_cto = 64, .name = "ng"};
+        .id = NG_ABSOLUTE, .ticks = 1, .unit = 3, .stamp_size = 4, .max_cto = 64, .max_dto = 64,
+        .name = "ng"};
     return profile;
 }
 
@@ -101,7 +102,7 @@ static void hear_with(ng_slave *slave, const char *frames, const ng_memory *memo
 
 static void hear(ng_slave *slave, const char *frames) { hear_with(slave, frames, NO_MEMORY); }
 
-static uint8_t buffer[1400];
+static uint8_t buffer[9000]; /* more than ever waits */
 
 /* Wants these frames to wait, and behind them nothing written. */
 static void shows(ng_slave *slave, const char *frames) {
@@ -226,6 +227,9 @@ static void spoil(unsigned k, ng_profile *p, ng_event *e, ng_segment *s) {
     case 29: p->max_cto = 9; break;       /* the reply with the name has 10 bytes */
     case 30: e->capacity = NG_MIN_FRAME_RING + 4; break;
     case 31: e->capacity = SIZE_MAX - 7; break; /* a multiple of 8 */
+    case 32: p->max_dto = 7; break;
+    case 33: p->max_dto = 8193; break;
+    case 34: p->max_dto = 0; break;
     default: s[1].events = 0x8001; break; /* event channel 15 */
     }
 }
@@ -237,7 +241,7 @@ static void openings(void) {
     ng_slave slave = NG_SLAVE_INIT;
     begin("openings");
     for (size_t c = 1; c < 17; c++) events[c] = event_of("e1");
-    for (unsigned k = 0; k < 33; k++) {
+    for (unsigned k = 0; k < 36; k++) {
         ng_profile p = good;
         ng_event e = event_of("e0");
         ng_segment s[2] = {segment_of(2, 2), segment_of(2, 1)};
@@ -757,9 +761,13 @@ static void within(unsigned long least, unsigned long bytes, unsigned long most,
 static void heap_of(const struct load *load) {
     static const uint8_t a2l[1000] = {0};
     unsigned l = load->lists, o = l * load->odts, e = o * load->entries, n = load->channels;
-    unsigned long of_slave = 54000 + 16000 * n + sizeof a2l;
-    unsigned long of_lists = 40 * l + 24 * o + 16 * e;
-    unsigned long most = 2500 * n + 160 * l + 100 * o + 80 * e + n * load->capacity;
+    unsigned long of_slave = 30000 + 16000 * n + sizeof a2l;
+    unsigned long of_lists = 48 * l + 24 * o + 16 * e;
+    unsigned long field = load->id == NG_RELATIVE_WORD ? 3 : 1, stamp = 4;
+    unsigned long frames = load->odts * (4 + field + load->entries * load->size) + stamp;
+    unsigned long record = (16 + frames + 7) / 8 * 8;
+    unsigned long page = 22000 + 18 * (frames > 8192 ? frames : 8192);
+    unsigned long most = 2500 * n + 160 * l + 100 * o + 80 * e + n * (load->capacity + record);
     ng_profile profile = profile_of();
     ng_segment segments[NG_MAX_SEGMENTS] = {segment_of(256, n)};
     ng_event events[16] = {event_of("e")};
@@ -771,6 +779,7 @@ static void heap_of(const struct load *load) {
         segments[i].extension = i;
     }
     profile.id = load->id;
+    profile.max_dto = 1400;
     memset(profile.name, 'n', NG_MAX_NAME);
     memset(profile.a2l_name, 'a', NG_MAX_NAME);
     memset(profile.epk, 'e', NG_MAX_NAME);
@@ -788,8 +797,8 @@ static void heap_of(const struct load *load) {
     within(of_lists, memory_bytes - opened, of_lists, "of its DAQ lists");
     start_all(&slave, load);
     unsigned long measures = memory_bytes;
-    within(0, measures - opened - of_lists, most, "of a measurement");
-    if (n == 2) within(304000, measures - before, 324000, "some 314 kB");
+    within(0, measures - opened - of_lists, page + most, "of a page and a measurement");
+    if (n == 2) within(439000, measures - before, 459000, "some 449 kB");
     trigger_all(tasks, load);
     ask(&slave, "fe");
     /* each stop of a list finds room, also in the smallest ring */
@@ -822,6 +831,7 @@ static void heap(void) {
     static const struct load loads[] = {{1, 64, 1, 1, 1, 1, NG_ABSOLUTE},
                                         {1, 12800, 15, 8, 17, 1, NG_ABSOLUTE},
                                         {2, 32768, 15, 8, 15, 3, NG_ABSOLUTE},
+                                        {1, 32768, 1, 124, 100, 1, NG_ABSOLUTE},
                                         {16, 64, 16, 1, 1, 1, NG_ABSOLUTE},
                                         {16, 65536, 16, 8, 32, 1, NG_RELATIVE_WORD}};
     begin("a slave takes as many bytes as are said, and gives them back");
@@ -992,20 +1002,22 @@ static ng_slave long_samples(size_t capacity, ng_task *task, unsigned triggers) 
 
 /* A sample goes out in several datagrams, and what is not sent is shown again. */
 static void full_buffers(void) {
-    static const ng_line account[] = {{0, 3, 3, 0, 0}};
+    static const ng_line account[] = {{0, 17, 17, 0, 0}};
     ng_task task;
     begin("buffers of a few frames");
-    ng_slave slave = long_samples(3 * LONG_SAMPLE, &task, 3);
-    shows_frames(&slave, NG_PEEK_BYTES, 0, 3);
-    shows_frames(&slave, NG_PEEK_BYTES, 0, 3);
+    ng_slave slave = long_samples(17 * LONG_SAMPLE, &task, 17);
+    shows_frames(&slave, 4 * 68 - 1, 0, 3);
+    shows_frames(&slave, 4 * 68 - 1, 0, 3);
     want(ng_slave_sent(&slave) == NG_OK, "sent");
-    /* the third sample finds no room behind what waits of the first, and the second */
-    shows_frames(&slave, sizeof buffer, 3, 13);
+    /* a page of 8192 bytes has 15 samples: the next one finds no room behind what waits of them */
+    shows_frames(&slave, NG_PEEK_BYTES, 3, 117);
     shows_frames(&slave, 5 * 68 - 1, 3, 4);
     shows_frames(&slave, 5 * 68, 3, 5);
     want(ng_slave_sent(&slave) == NG_OK, "sent");
-    is_about(&slave, true, true, 8 * 68);
-    shows_frames(&slave, sizeof buffer, 8, 16);
+    is_about(&slave, true, true, 14 * 8 * 68);
+    shows_frames(&slave, sizeof buffer, 8, 120);
+    want(ng_slave_sent(&slave) == NG_OK, "sent");
+    shows_frames(&slave, sizeof buffer, 128, 8);
     want(ng_slave_sent(&slave) == NG_OK, "sent");
     sends(&slave, "");
     finish(&task);
@@ -1071,27 +1083,59 @@ static void greatest_ring(void) {
     close_with(&slave, account, 1);
 }
 
-/* Of two samples one is accepted where it just fits, and none where it doesn't. */
-static void one_sample(size_t capacity, unsigned accepted) {
-    const ng_line account[] = {{0, 2, accepted, 2 - accepted, 0}};
+/* Of two samples one is accepted, where it just fits. */
+static void one_sample(void) {
+    static const ng_line account[] = {{0, 2, 1, 1, 0}};
     static const uint8_t bytes[63];
-    const ng_memory memory = {bytes, sizeof bytes};
+    static const ng_memory memory = {bytes, sizeof bytes};
     ng_task task;
-    ng_slave slave = long_samples(capacity, &task, 0);
-    trigger_with(&task, &memory, 1, 1, accepted);
+    ng_slave slave = long_samples(LONG_SAMPLE, &task, 0);
+    trigger_with(&task, &memory, 1, 1, 1);
     trigger_with(&task, &memory, 1, 1, 0);
-    if (accepted > 0) skip(&slave);
+    skip(&slave);
     finish(&task);
     close_with(&slave, account, 1);
+}
+
+/* Where a sample is longer than its ring, its list isn't started, and nothing is due. */
+static void no_sample(void) {
+    static const uint8_t bytes[63];
+    static const ng_memory memory = {bytes, sizeof bytes};
+    ng_task task;
+    ng_slave slave = long_samples(LONG_SAMPLE - 8, &task, 0);
+    is_about(&slave, true, false, 0);
+    hear(&slave, "04000000de010000");
+    sends(&slave, "02001d00fe30");
+    trigger_with(&task, &memory, 1, 0, 0);
+    finish(&task);
+    close_with(&slave, NULL, 0);
 }
 
 static void full_rings(void) {
     begin("the smallest ring and the greatest, and samples that just fit, or don't");
     smallest_ring();
     greatest_ring();
-    one_sample(LONG_SAMPLE, 1);
-    one_sample(LONG_SAMPLE - 8, 0);
+    one_sample();
+    no_sample();
     end();
+}
+
+/* A peek needs room for the longest frame that the profile allows, whatever waits. */
+static void least_buffer(uint8_t max_cto, uint16_t max_dto, size_t least) {
+    ng_profile profile = profile_of();
+    ng_segment segment = segment_of(2, 1);
+    ng_event event = event_of("e0");
+    ng_slave slave = NG_SLAVE_INIT;
+    size_t len = 77;
+    profile.max_cto = max_cto;
+    profile.max_dto = max_dto;
+    profile.name[0] = 0;
+    want(ng_slave_open(&profile, &segment, 1, &event, 1, NO_A2L, &slave) == NG_OK, "open");
+    hear(&slave, "02000000ff00");
+    want(ng_slave_peek(&slave, buffer, least - 1, &len) == NG_SMALL_BUFFER && len == 77, "peek");
+    want(ng_slave_peek(&slave, buffer, least, &len) == NG_OK && len == 12, "peek");
+    want(buffer[7] == max_cto && (buffer[8] | buffer[9] << 8) == max_dto, "what CONNECT tells");
+    close_with(&slave, NULL, 0);
 }
 
 static void small_buffers(void) {
@@ -1113,6 +1157,9 @@ static void small_buffers(void) {
     want(ng_slave_close(&slave, lines, NG_MAX_LISTS - 1, &whole, &each) == NG_SMALL_BUFFER, "close");
     finish(&task);
     close_with(&slave, account, 1);
+    least_buffer(255, 8, 4 + 255);
+    least_buffer(8, 1400, 4 + 1400);
+    least_buffer(8, 8192, NG_PEEK_BYTES);
     end();
 }
 

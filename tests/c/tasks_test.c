@@ -148,7 +148,8 @@ static void turn(ng_slave *slave, unsigned list) {
 
 static void open_slave(size_t cap, ng_slave *slave, struct sampling *samplings) {
     ng_profile profile = {
-        .id = NG_ABSOLUTE, .ticks = 1, .unit = 3, .stamp_size = 4, .max_cto = 64, .name = "ng"};
+        .id = NG_ABSOLUTE, .ticks = 1, .unit = 3, .stamp_size = 4, .max_cto = 64, .max_dto = 64,
+        .name = "ng"};
     ng_segment segments[CHANNELS] = {{.len = 4, .events = 1}, {.base = 4, .len = 4, .events = 2}};
     ng_event events[CHANNELS] = {{.name = "e0"}, {.name = "e1"}};
     for (unsigned c = 0; c < CHANNELS; c++) events[c].capacity = cap;

@@ -1,11 +1,12 @@
 -- What the calls of the C library answer and what they leave, by their status.
 use Rattle.std.specs.Prelude.{◌≡◌, ℕ, ◌<◌, ◌≤◌, List, [], ◌++◌, length, drop, IsSome}
-use Rattle.std.specs.Prelude.{Option, Some, None, Ok}
+use Rattle.std.specs.Prelude.{Option, Some, None, Ok, true}
 use Rattle.xcp_base.specs.declared.limits.TheConstants.{RUN_CHANNELS, MAX_IMAGE_LEN}
 use Rattle.xcp_base.specs.Forms.{size_of}
 use Rattle.daq_store.specs.declared.command.Command.{Command}
 use Rattle.daq_store.specs.declared.reply.Reply.{Reply}
 use Rattle.daq_store.specs.Commands.{command}
+use Rattle.daq_store.specs.Limited.{is_by_value}
 use Rattle.daq_store.specs.Replies.{Allocates, KeepsOnError, calls_after_packet, packet_reply}
 use Rattle.daq_store.specs.Replies.{reply_bytes}
 use Rattle.daq_store.specs.Standing.{PassesAll, StoreStandsAfter, StoreState}
@@ -26,12 +27,13 @@ AreLimits asked =
     × (1 ≤ asked.image_len) × (asked.image_len ≤ MAX_IMAGE_LEN)
     × IsSome (kind_of asked.id) × IsSome (size_of asked.stamp_size)
 
--- a store has the profile that it was asked for
+-- a store has the profile that it was asked for, and its samples find room in a value of fixed size
 pub record HasAsked (s : StoreState) (asked : StoreNumbers) : Type 0 where
   pub channels : s.profile.channels ≡ asked.channels
   pub segments : s.profile.segments ≡ image_segments asked.image_len
   pub id : kind_of asked.id ≡ Some s.profile.form.id
   pub stamp : size_of asked.stamp_size ≡ Some s.profile.form.stamp
+  pub by_value : is_by_value s.profile ≡ true
 
 -- a store was made as it was asked for, and stands after no call
 pub record HoldsFresh (held : Option Content) (asked : StoreNumbers) : Type 0 where

@@ -59,6 +59,7 @@ pub record IsProfileOf (p : ProfileIn) (segments : List SegmentIn) (events : Lis
   pub unit : d.unit ≡ p.unit
   pub ticks : d.ticks ≡ p.ticks
   pub max_cto : d.max_cto ≡ p.max_cto
+  pub max_dto : d.max_dto ≡ p.max_dto
   pub name : d.name.items ≡ text_of p.name
   pub channels : map told_of d.events.items ≡ map told_in events
   pub a2l_name : d.a2l_name.items ≡ text_of p.a2l_name

@@ -40,6 +40,8 @@ pub struct ProfileIn {
     pub id: u32,
     /// So many units are one tick of a timestamp.
     pub ticks: u16,
+    /// MAX_DTO.
+    pub max_dto: u16,
     /// The unit of a timestamp.
     pub unit: u8,
     /// The length of a timestamp, in bytes.

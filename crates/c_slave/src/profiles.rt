@@ -129,6 +129,7 @@ fn profile_of(
         unit: asked.unit,
         ticks: asked.ticks,
         max_cto: asked.max_cto,
+        max_dto: asked.max_dto,
         name,
         events,
         a2l_name,

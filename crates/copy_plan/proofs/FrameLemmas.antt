@@ -1,11 +1,12 @@
 -- The frames of a sample: how long they are, and how one is laid out.
-use Rattle.std.proofs.Common.{◌≡◌, ℕ, zero, suc, ◌+◌, ◌-◌, ◌/◌, ◌%◌, ◌<◌, ◌≤◌, Bool, List, [], ◌∷◌, ◌++◌, length, map, take, drop, refl, sym, ap, ◌∙◌, arith, append_assoc, append-nil, length-append}
+use Rattle.std.proofs.Common.{◌≡◌, ℕ, zero, suc, ◌+◌, ◌-◌, ◌*◌, ◌/◌, ◌%◌, ◌<◌, ◌≤◌, Bool, List, [], ◌∷◌, ◌++◌, length, map, take, drop, refl, sym, ap, ◌∙◌, arith, append_assoc, append-nil, length-append}
 use Rattle.std.proofs.lemmas.List.{drop-take, drop_at, length-map, length-take, take-append-le, take-take}
 use Rattle.std.proofs.lemmas.List.FromFn.{map-range_with_len_more}
 use Rattle.std.proofs.Math.Seq.{take-add}
 use Rattle.std.specs.Int.{to_le_bytes, w32}
 use Rattle.std.specs.List.{range_with_len, sum_by}
 use Rattle.xcp_base.specs.Packets.{packet_len}
+use Rattle.xcp_base.specs.declared.limits.TheConstants.{MAX_PACKET}
 use Rattle.segments.specs.declared.segment.Segment.{Segment}
 use Rattle.frame_writer.specs.Frame.{frame, two_bytes, unnumbered}
 use Rattle.daq_store.specs.Configuration.{Configuration, channel_of, entries_len, is_stamped, odt_entries}
@@ -48,10 +49,15 @@ one_frame_more f k =
     ap unnumbered (map-range_with_len_more f 0 k k (omega arith)) ∙ unnumbered-append (map f (range_with_len 0 k)) (f k ∷ [])
     ∙ ap (λ b. unnumbered (map f (range_with_len 0 k)) ++ b) (append-nil (frame 0 (f k)))
 
+-- of short packets they have few
+pub lens_short : (conf : Configuration) (k : ℕ) → ((j : ℕ) → j < k → packet_len conf.form (is_stamped conf.mode) j (entries_len conf j) ≤ MAX_PACKET) → lens_upto conf k ≤ k * (4 + MAX_PACKET)
+lens_short conf zero short = omega arith
+lens_short conf (suc k) short = omega (arith, short k (omega arith), lens_short conf k (λ j h. short j (omega (arith, h))))
+
 -- ---- one frame
 
 -- LEN in four bytes: behind it a CTR of 0
-pub header_is : (n : ℕ) → n ≤ 64 → to_le_bytes w32 n ≡ two_bytes n ++ two_bytes 0
+pub header_is : (n : ℕ) → n ≤ 8192 → to_le_bytes w32 n ≡ two_bytes n ++ two_bytes 0
 header_is n h =
     let third : n / 65536 % 256 ≡ 0 = omega (arith, h) in
     let fourth : n / 16777216 % 256 ≡ 0 = omega (arith, h) in

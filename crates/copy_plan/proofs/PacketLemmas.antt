@@ -11,7 +11,7 @@ use Rattle.xcp_base.specs.Packets.{packet_len, stamp_len}
 use Rattle.xcp_base.specs.Copied.{packet_of}
 use Rattle.segments.specs.Image.{image_len}
 use Rattle.xcp_base.proofs.FormLemmas.{length-id_field, length-stamp_field}
-use Rattle.copy_plan.specs.Config.{elements_len, ListPlan, IsPlan, OdtEntry, IsInside, odt}
+use Rattle.copy_plan.specs.Config.{elements_len, ListPlan, IsByValue, IsPlan, OdtEntry, IsInside, odt}
 use Rattle.copy_plan.specs.Pids.{field}
 use Rattle.copy_plan.specs.Packet.{timestamp, elements, packet}
 
@@ -37,8 +37,8 @@ packet_has_len plan image stamp k overload h is here =
     let inside : All (IsInside (length image)) (odt plan k) = rw h (is.inside k here) in
     omega (arith, length-append (field plan k overload) (timestamp plan k stamp ++ elements image (odt plan k)), length-append (timestamp plan k stamp) (elements image (odt plan k)), length-id_field plan.form.id plan.first_pid plan.list k overload, length-timestamp plan k stamp, length-elements image (odt plan k) inside)
 
-pub length-packet : (plan : ListPlan) (image : List ℕ) (stamp k : ℕ) (overload : Bool) → length image ≡ image_len plan.segments → IsPlan plan → k < length plan.odts → length (packet plan image stamp overload k) ≤ 64
-length-packet plan image stamp k overload h is here = omega (arith, is.short k here, packet_has_len plan image stamp k overload h is here)
+pub length-packet : (plan : ListPlan) (image : List ℕ) (stamp k : ℕ) (overload : Bool) → length image ≡ image_len plan.segments → IsPlan plan → IsByValue plan → k < length plan.odts → length (packet plan image stamp overload k) ≤ 64
+length-packet plan image stamp k overload h is fits here = omega (arith, fits.short k here, packet_has_len plan image stamp k overload h is here)
 
 stamp_front : (size : StampSize) (stamp : ℕ) → take (stamp_bytes size) (bytes_low_first 0 4 stamp) ≡ stamp_field size stamp
 stamp_front One stamp = refl

@@ -8,12 +8,13 @@ use Rattle.std.proofs.lemmas.List.{get_or-map, get_or_default, length-map}
 use Rattle.std.proofs.lemmas.List.Sums.{AllPass-from_list_all}
 use Rattle.std.proofs.lemmas.List.FromFn.{get_or-range_with_len, length-range_with_len}
 use Rattle.std.proofs.lemmas.Option.{unwrap_or-slice_get}
-use Rattle.xcp_base.specs.declared.limits.TheConstants.{MAX_CHANNELS, MAX_DTO, MAX_LISTS, MAX_ODTS}
+use Rattle.xcp_base.specs.declared.limits.TheConstants.{MAX_CHANNELS, MAX_LISTS, MAX_ODTS_IN_ALL}
 use Rattle.xcp_base.specs.Forms.{FitsFirstPid}
 use Rattle.xcp_base.specs.Packets.{packet_len}
 use Rattle.xcp_base.proofs.FormLemmas.{fits_all}
 use Rattle.daq_store.specs.Calls.{numbers_below}
 use Rattle.daq_store.specs.Configuration.{Configuration, channel_of, prescaler_of, is_stamped, odt_entries, entries_len, is_within, is_filled, is_short, is_ready}
+use Rattle.xcp_base.specs.Forms.{IsForm}
 use Rattle.copy_plan.specs.Config.{OdtEntry, IsPlan, elements_len, plan_of, written_entries}
 use Rattle.copy_plan.specs.Inner.Filled.{AreFilled}
 use Rattle.copy_plan.proofs.WrittenLemmas.{IsSome-within, inside-within, lie-within, readable-within, some-written_entries, sum_by-written_entries}
@@ -33,7 +34,7 @@ pub record Ready (n : List Segment) (conf : Configuration) : Type 0 where
   pub some : 0 < length conf.odts
   pub entries : (k : ℕ) → k < length conf.odts → 0 < length (odt_entries conf k)
   pub within : (k : ℕ) → k < length conf.odts → list_all (is_within (channel_of conf.mode) n) (odt_entries conf k) ≡ true
-  pub short : (k : ℕ) → k < length conf.odts → packet_len conf.form (is_stamped conf.mode) k (entries_len conf k) ≤ MAX_DTO
+  pub short : (k : ℕ) → k < length conf.odts → packet_len conf.form (is_stamped conf.mode) k (entries_len conf k) ≤ conf.form.max_dto
 
 below : (a b : ℕ) → nat_le a b ≡ true → a ≤ b
 below a b h = elim (leb_tells a b) [ inl t ↦ t.1 | inr t ↦ absurd (true≢false (sym h ∙ t.0)) ]
@@ -54,7 +55,7 @@ ready n conf h =
       short = λ k l.
           let place : get_or (numbers_below (length conf.odts)) k 0 ≡ k = get_or-range_with_len 0 (length conf.odts) k 0 l ∙ zero-add k in
           let inside : k < length (numbers_below (length conf.odts)) = rw (length-range_with_len 0 (length conf.odts)) l in
-          below (packet_len conf.form (is_stamped conf.mode) k (entries_len conf k)) MAX_DTO (ap test (sym place) ∙ AllPass-from_list_all test (numbers_below (length conf.odts)) short.1 k 0 inside);
+          below (packet_len conf.form (is_stamped conf.mode) k (entries_len conf k)) conf.form.max_dto (ap test (sym place) ∙ AllPass-from_list_all test (numbers_below (length conf.odts)) short.1 k 0 inside);
     }
 
 pub filled : (n : List Segment) (conf : Configuration) → Ready n conf → AreFilled (channel_of conf.mode) n conf
@@ -66,14 +67,15 @@ filled n conf r = λ k d h.
 same_len : (l : ℕ) (conf : Configuration) (f : ℕ) (n : List Segment) (k : ℕ) → k < length conf.odts → elements_len (plan_of l conf f n) k ≡ entries_len conf k
 same_len l conf f n k h = ap (sum_by (λ (e : OdtEntry). e.1)) (odt-written_entries (channel_of conf.mode) n conf k h) ∙ sum_by-written_entries (channel_of conf.mode) n (odt_entries conf k)
 
-pub plan_is : (l : ℕ) (conf : Configuration) (f : ℕ) (n : List Segment) → HaveImage n → l < MAX_LISTS → channel_of conf.mode < MAX_CHANNELS → (IsSome conf.mode → 0 < prescaler_of conf.mode) → length conf.odts ≤ MAX_ODTS → FitsFirstPid conf.form.id (length conf.odts) f → Ready n conf → IsPlan (plan_of l conf f n)
-plan_is l conf f n image list channel prescaler limit pids r =
+pub plan_is : (l : ℕ) (conf : Configuration) (f : ℕ) (n : List Segment) → HaveImage n → l < MAX_LISTS → channel_of conf.mode < MAX_CHANNELS → (IsSome conf.mode → 0 < prescaler_of conf.mode) → length conf.odts ≤ MAX_ODTS_IN_ALL → IsForm conf.form → FitsFirstPid conf.form.id (length conf.odts) f → Ready n conf → IsPlan (plan_of l conf f n)
+plan_is l conf f n image list channel prescaler limit form pids r =
     let count : length (map (written_entries (channel_of conf.mode) n) conf.odts) ≡ length conf.odts = length-map conf.odts (written_entries (channel_of conf.mode) n) in
     record {
       list = list;
       channel = channel;
       prescaler = prescaler r.mode;
       some = omega (arith, r.some, count);
+      form = form;
       limit = omega (arith, limit, count);
       pids = omega (arith, fits_all conf.form.id (length conf.odts) f limit pids, count);
       first = rw count pids;

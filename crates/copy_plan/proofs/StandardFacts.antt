@@ -38,7 +38,7 @@ packets-two_odts_marked = refl
 
 -- the same as list 3 with the other identification fields and sizes, marked
 in_form : IdKind → StampSize → ListPlan
-in_form id size = plan_of 3 (record two_odts { form = record { id = id; stamp = size } }) 0 (image_segments 2)
+in_form id size = plan_of 3 (record two_odts { form = record { id = id; stamp = size; max_dto = 64 } }) 0 (image_segments 2)
 
 packets-byte_two : packets (in_form RelativeByte Two) (0xAA ∷ 0xBB ∷ []) 0x01020304 true ≡ (0x80 ∷ 0x03 ∷ 0x04 ∷ 0x03 ∷ 0xAA ∷ []) ∷ (0x01 ∷ 0x03 ∷ 0xBB ∷ []) ∷ []
 unfolding packets packet two_odts in_form

@@ -5,7 +5,7 @@ use Rattle.std.specs.Prelude.{filter_map, slice_index_or, sum_by, Option, option
 use Rattle.xcp_base.specs.declared.limits.TheConstants.{MAX_CHANNELS, MAX_DTO, MAX_LISTS}
 use Rattle.xcp_base.specs.declared.limits.TheConstants.{MAX_ODTS, MAX_ODTS_IN_ALL}
 use Rattle.xcp_base.specs.declared.packet_form.PacketForm.{PacketForm}
-use Rattle.xcp_base.specs.Forms.{FitsFirstPid}
+use Rattle.xcp_base.specs.Forms.{FitsFirstPid, IsForm}
 use Rattle.xcp_base.specs.Packets.{packet_len}
 use Rattle.segments.specs.declared.segment.Segment.{Segment}
 use Rattle.segments.specs.Image.{HaveImage, image_len, image_place, lies_in}
@@ -74,7 +74,8 @@ pub record IsPlan (plan : ListPlan) : Type 0 where
   pub channel : plan.channel < MAX_CHANNELS
   pub prescaler : 0 < plan.prescaler
   pub some : 0 < length plan.odts
-  pub limit : length plan.odts ≤ MAX_ODTS
+  pub form : IsForm plan.form
+  pub limit : length plan.odts ≤ MAX_ODTS_IN_ALL
   pub pids : plan.first_pid + length plan.odts ≤ MAX_ODTS_IN_ALL
   pub first : FitsFirstPid plan.form.id (length plan.odts) plan.first_pid
   pub entries : (k : ℕ) → k < length plan.odts → 0 < length (odt plan k)
@@ -84,6 +85,13 @@ pub record IsPlan (plan : ListPlan) : Type 0 where
   pub readable :
       (k : ℕ) → k < length plan.odts
       → All (IsReadable plan.channel plan.segments) (odt plan k)
+  pub short :
+      (k : ℕ) → k < length plan.odts
+      → packet_len plan.form plan.stamped k (elements_len plan k) ≤ plan.form.max_dto
+
+-- its samples find room in a value of fixed size: their packets are few and short
+pub record IsByValue (plan : ListPlan) : Type 0 where
+  pub few : length plan.odts ≤ MAX_ODTS
   pub short :
       (k : ℕ) → k < length plan.odts
       → packet_len plan.form plan.stamped k (elements_len plan k) ≤ MAX_DTO

@@ -31,11 +31,11 @@ MarkedPid =
     (plan : ListPlan) (k : ℕ) (overload : Bool) → IsPlan plan → k < length plan.odts
     → (pid plan k overload % 128 ≡ pid plan k false) × (pid plan k false ≤ 0x7B)
 
--- a relative ODT number is the PID without the overload indication, and at most 7
+-- a relative ODT number is the PID without the overload indication, and at most 0x7B
 abbrev pub RelativePid : Type 0
 RelativePid =
     (plan : ListPlan) (k : ℕ) → IsPlan plan → plan.form.id ≢ Absolute → k < length plan.odts
-    → (pid plan k false ≡ k) × (pid plan k false ≤ 7)
+    → (pid plan k false ≡ k) × (pid plan k false ≤ 0x7B)
 
 -- FIRST_PID and the number of ODTs are those of list l after some calls
 pub record IsOfList (calls : List Command) (l : ℕ) (plan : ListPlan) : Type 0 where

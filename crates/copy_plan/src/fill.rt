@@ -4,7 +4,7 @@ ghost use Rattle.segments.specs.Image.{image_len};
 ghost use Rattle.std.specs.Prelude.{slice_get, option_map, take};
 ghost use Rattle.xcp_base.specs.Forms.{field_len};
 ghost use Rattle.xcp_base.specs.Packets.{stamp_len};
-ghost use Rattle.copy_plan.specs.Config.{IsPlan, odt};
+ghost use Rattle.copy_plan.specs.Config.{IsByValue, IsPlan, odt};
 ghost use Rattle.copy_plan.specs.Packet.{packet, packets};
 ghost use Rattle.copy_plan.specs.Pids.{field, pid};
 ghost use Rattle.copy_plan.specs.Copies.{copies_needed};
@@ -19,9 +19,11 @@ use xcp_base::{MemoryView, Packets};
 
 impl CopyPlan {
     /// The packets of a sample, one for each ODT in their order, all from one image and one
-    /// timestamp, which only a stamped list uses; `overload` sets the overload indication.
+    /// timestamp, which only a stamped list uses; `overload` sets the overload indication. They find
+    /// room in a value of fixed size.
     pub fn fill(&self, image: &[u8], stamp: u32, overload: bool) -> Packets
-        requires { length image.now ≡ image_len self.now.segments }
+        requires image { length image.now ≡ image_len self.now.segments }
+        requires by_value { IsByValue self.now }
         ensures { result ≡ packets self.now image.now stamp overload }
     {
         let mut sample = Packets::new();
@@ -39,6 +41,7 @@ impl CopyPlan {
         overload: bool,
     )
         requires memory { FitsMemory self.now.channel self.now.segments memory }
+        requires by_value { IsByValue self.now }
         ensures { sample.new ≡ packets self.now
             (image_in self.now.channel self.now.segments memory.entry) stamp overload }
     {
@@ -88,6 +91,7 @@ impl CopyPlan {
     )
         requires memory { FitsMemory self.now.channel self.now.segments memory }
         requires odt { k < length self.now.odts }
+        requires by_value { IsByValue self.now }
         requires room { length sample.old < MAX_ODTS }
         ensures { sample.new ≡ sample.old
             ++ packet self.now (image_in self.now.channel self.now.segments memory.entry) stamp

@@ -1,14 +1,32 @@
 //! The frames of a sample, laid out where they are wanted, with CTR 0.
-ghost use Rattle.std.specs.Prelude.{◌≡◌, ℕ, ◌+◌, ◌<◌, ◌≤◌, Bool, List, ◌++◌, length, take};
+ghost use Rattle.std.specs.Prelude.{◌≡◌, ℕ, ◌+◌, ◌*◌, ◌<◌, ◌≤◌, Bool, true, List, ◌++◌, length};
+ghost use Rattle.std.specs.Prelude.{take};
+ghost use Rattle.xcp_base.specs.declared.limits.TheConstants.{MAX_ODTS_IN_ALL, MAX_PACKET};
+ghost use Rattle.segments.specs.declared.segment.Segment.{Segment};
+ghost use Rattle.daq_store.specs.Configuration.{is_ready};
+ghost use Rattle.copy_plan.specs.Config.{plan_of};
 ghost use Rattle.segments.specs.Image.{image_len};
 ghost use Rattle.frame_writer.specs.Frame.{frame, unnumbered};
 ghost use Rattle.copy_plan.specs.Frames.{frame_len, frames_len};
 ghost use Rattle.copy_plan.specs.Memory.{FitsMemory, image_in};
 ghost use Rattle.copy_plan.specs.Packet.{packet, packets};
 
-use crate::plan::{CopyPlan, HEADER};
+use crate::plan::{CopyPlan, HEADER, frames_len_of};
+use daq_store::ListConf;
 use frame_writer::place;
 use xcp_base::{MemoryView, put_packet};
+
+/// The bytes of the frames of a sample of a DAQ list, as each plan of it has them.
+pub fn sample_len(conf: &ListConf) -> usize
+    ensures value { (l first_pid : ℕ) (segments : List Segment)
+        → result ≡ frames_len (plan_of l conf.now first_pid segments) }
+    ensures limit { (segments : List Segment) → is_ready segments conf.now ≡ true
+        → result ≤ MAX_ODTS_IN_ALL * (4 + MAX_PACKET) }
+{
+    // for the proof: MAX_DTO, and how many ODTs there may be
+    let _ = (conf.form(), conf.odts());
+    frames_len_of(conf)
+}
 
 impl CopyPlan {
     /// The bytes of the frames of a sample.

@@ -21,7 +21,7 @@ pub fn pids_of_lists_are_apart()
     ensures { PidsApart }
 {}
 
-/// With a relative ODT number the PID is this number, at most 7, and the overload indication.
+/// With a relative ODT number the PID is this number, at most 0x7B, and the overload indication.
 pub fn relative_pid()
     ensures { RelativePid }
 {}

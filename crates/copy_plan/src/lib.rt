@@ -7,4 +7,5 @@ pub mod laws;
 mod plan;
 mod spans;
 
+pub use frames::sample_len;
 pub use plan::{CopyPlan, PlanFault};

@@ -21,7 +21,7 @@ use std::fmt;
 use std::marker::Model;
 use std::snapshot::Snapshot;
 use thiserror::Error;
-use xcp_base::limits::{MAX_CHANNELS, MAX_LISTS, MAX_ODTS};
+use xcp_base::limits::{MAX_CHANNELS, MAX_LISTS, MAX_ODTS_IN_ALL};
 use xcp_base::{IdKind, PacketForm};
 
 /// LEN and CTR, in bytes.
@@ -215,7 +215,7 @@ impl CopyPlan {
 }
 
 /// The bytes of the frames of a list's sample.
-fn frames_len_of(conf: &ListConf) -> usize
+pub(crate) fn frames_len_of(conf: &ListConf) -> usize
     ensures { result ≡ lens_upto conf.now (length conf.now.odts) }
 {
     let mut len = 0;
@@ -238,7 +238,7 @@ fn spans_of_odts(
     ensures value { IfOk result (λ odts. map (λ (s : SpansState). s.spans) odts.items
         ≡ map (λ es. joined_spans (written_entries channel segments.now es)) conf.now.odts) }
     ensures placed { IfOk result (λ odts. All (ArePlaced channel segments.now) odts.items) }
-    ensures limit { length conf.now.odts ≤ MAX_ODTS }
+    ensures limit { length conf.now.odts ≤ MAX_ODTS_IN_ALL }
 {
     let mut odts = Vec::with_capacity(alloc, conf.odts())?;
     for odt in 0..conf.odts() {

@@ -1,18 +1,23 @@
 -- The plans of the lists of an event channel, list by list.
-use Rattle.std.proofs.Common.{inl, inr, ◌≡◌, ℕ, zero, suc, ◌+◌, ◌≤◌, Bool, true, false, ◌&&◌, ◌||◌, List, [], ◌∷◌, ◌++◌, map, length, filter, nat_eq, nat_le, sym, refl, ap, ◌∙◌, arith, cond, subst, All}
+use Rattle.std.proofs.Common.{inl, inr, ◌≡◌, ℕ, zero, suc, ◌+◌, ◌*◌, ◌<◌, ◌≤◌, Bool, true, false, ◌&&◌, ◌||◌, List, [], ◌∷◌, ◌++◌, map, length, filter, nat_eq, nat_le, get_or, sym, refl, ap, ◌∙◌, arith, cond, subst, All}
 use Rattle.std.specs.List.{list_all, range_with_len}
 use Rattle.std.proofs.lemmas.List.Elements.{All-head, All-tail, filter-append}
-use Rattle.std.proofs.lemmas.List.{map-append}
-use Rattle.xcp_base.specs.declared.limits.TheConstants.{RUN_CHANNELS}
+use Rattle.std.proofs.lemmas.List.{get_or-map, length-map, map-append}
+use Rattle.xcp_base.specs.declared.limits.TheConstants.{MAX_DTO, MAX_ODTS, RUN_CHANNELS}
+use Rattle.xcp_base.specs.Packets.{packet_len}
+use Rattle.channel_ring.specs.Making.{IsUpTo, SampleLimit, by_value}
 use Rattle.daq_store.specs.Calls.{numbers_below}
 use Rattle.daq_store.specs.Standing.{StoreState}
-use Rattle.copy_plan.specs.Config.{ListPlan, IsPlan}
+use Rattle.daq_store.specs.Limited.{is_by_value}
+use Rattle.copy_plan.specs.Config.{ListPlan, IsPlan, elements_len}
+use Rattle.copy_plan.specs.Frames.{frames_upto}
 use Rattle.std.proofs.Math.Bool.{and-false, and-true}
 use Rattle.std.proofs.lemmas.Bool.Decides.{eqb_tells, nat_tests}
 use Rattle.daq_store.specs.Configuration.{channel_of, is_ready}
 use Rattle.daq_store.specs.Standing.{conf_of}
+use Rattle.sampler.specs.Limits.{AllKeepTo, KeepsTo}
 use Rattle.sampler.specs.State.{ArePlansOf, RiseFrom}
-use Rattle.daq_engine.specs.Openings.{is_ready_on, list_plan, channel_plans, fit_caps_of}
+use Rattle.daq_engine.specs.Openings.{HasFewOdts, is_ready_on, list_plan, channel_plans, fit_caps_of}
 
 -- the plans of event channel c among the lists below n
 abbrev pub plans_below : StoreState → ℕ → ℕ → List ListPlan
@@ -104,16 +109,56 @@ rising-from s c a (suc n) = rising-step s (is_ready_on s c a) a (filter (is_read
 pub rising : (s : StoreState) (c : ℕ) (plans : List ListPlan) → plans ≡ channel_plans s c → RiseFrom 0 plans
 rising s c plans e = subst (RiseFrom 0) (sym e) (rising-from s c 0 (length s.lists))
 
--- capacities that fit are one for each event channel
+-- capacities that fit are as many as the store asks, and it is by value
+many_that_fit : (may_have : ℕ → Bool) (s : StoreState) (caps : List ℕ) → fit_caps_of may_have s caps ≡ true
+    → (nat_eq (length caps) s.profile.channels && nat_le (length caps) RUN_CHANNELS && is_by_value s.profile) ≡ true
+many_that_fit may_have s caps h =
+    and_left (nat_eq (length caps) s.profile.channels && nat_le (length caps) RUN_CHANNELS && is_by_value s.profile) (list_all may_have caps) h
+
+-- they are one for each event channel
 pub one_for_each : (may_have : ℕ → Bool) (s : StoreState) (caps : List ℕ) → fit_caps_of may_have s caps ≡ true → length caps ≡ s.profile.channels
 one_for_each may_have s caps h =
-    let many = and_left (nat_eq (length caps) s.profile.channels && nat_le (length caps) RUN_CHANNELS) (list_all may_have caps) h in
+    let many = and_left (nat_eq (length caps) s.profile.channels && nat_le (length caps) RUN_CHANNELS) (is_by_value s.profile) (many_that_fit may_have s caps h) in
     let e : nat_eq (length caps) s.profile.channels ≡ true = and_left (nat_eq (length caps) s.profile.channels) (nat_le (length caps) RUN_CHANNELS) many in
     grind (arith, nat_tests, e)
 
 -- there are at most 8
 pub few_that_fit : (may_have : ℕ → Bool) (s : StoreState) (caps : List ℕ) → fit_caps_of may_have s caps ≡ true → length caps ≤ RUN_CHANNELS
 few_that_fit may_have s caps h =
-    let many = and_left (nat_eq (length caps) s.profile.channels && nat_le (length caps) RUN_CHANNELS) (list_all may_have caps) h in
+    let many = and_left (nat_eq (length caps) s.profile.channels && nat_le (length caps) RUN_CHANNELS) (is_by_value s.profile) (many_that_fit may_have s caps h) in
     let e : nat_le (length caps) RUN_CHANNELS ≡ true = and_right (nat_eq (length caps) s.profile.channels) (nat_le (length caps) RUN_CHANNELS) many in
     grind (arith, nat_tests, e)
+
+-- and the store's samples find room in a value of fixed size
+pub value_that_fits : (may_have : ℕ → Bool) (s : StoreState) (caps : List ℕ) → fit_caps_of may_have s caps ≡ true → is_by_value s.profile ≡ true
+value_that_fits may_have s caps h =
+    and_right (nat_eq (length caps) s.profile.channels && nat_le (length caps) RUN_CHANNELS) (is_by_value s.profile) (many_that_fit may_have s caps h)
+
+-- packets that are at most 64 bytes long have frames of at most 68
+frames_short : (plan : ListPlan) (n : ℕ) → ((k : ℕ) → k < n → packet_len plan.form plan.stamped k (elements_len plan k) ≤ MAX_DTO) → frames_upto plan n ≤ n * 68
+frames_short plan zero h = omega arith
+frames_short plan (suc n) h = omega (arith, h n (omega arith), frames_short plan n (λ k here. h k (omega (arith, here))))
+
+-- a plan of few and short packets keeps to what is admitted by value
+keeps_by_value : (limit : SampleLimit) (plan : ListPlan) → IsUpTo by_value limit → IsPlan plan → length plan.odts ≤ MAX_ODTS → plan.form.max_dto ≤ MAX_DTO
+    → KeepsTo limit plan
+keeps_by_value limit plan least is few form =
+    record {
+      few = omega (arith, few, least.count);
+      short = λ k here. omega (arith, is.short k here, form, least.packet);
+      frames = omega (arith, frames_short plan (length plan.odts) (λ k here. omega (arith, is.short k here, form)), few, least.frames);
+    }
+
+-- so do the plans of a store that is by value
+pub keep_by_value : (limit : SampleLimit) (s : StoreState) (c : ℕ) (plans : List ListPlan) → IsUpTo by_value limit → is_by_value s.profile ≡ true
+    → plans ≡ channel_plans s c → All IsPlan plans → All (HasFewOdts s.profile.most_odts) plans → AllKeepTo limit plans
+keep_by_value limit s c plans least by e is few = λ k d inside.
+    let ready : List ℕ = filter (is_ready_on s c) (numbers_below (length s.lists)) in
+    let few_odts : s.profile.most_odts ≤ MAX_ODTS =
+    let t = and_left (nat_le s.profile.most_odts MAX_ODTS) (nat_le s.profile.form.max_dto MAX_DTO) by in grind (arith, nat_tests, t) in
+    let short : s.profile.form.max_dto ≤ MAX_DTO =
+    let t = and_right (nat_le s.profile.most_odts MAX_ODTS) (nat_le s.profile.form.max_dto MAX_DTO) by in grind (arith, nat_tests, t) in
+    let there : k < length ready = omega (arith, inside, ap length e, length-map ready (list_plan s)) in
+    let here : get_or plans k d ≡ list_plan s (get_or ready k 0) = ap (λ ps. get_or ps k d) e ∙ get_or-map (list_plan s) ready k 0 d there in
+    let form : (get_or plans k d).form.max_dto ≡ s.profile.form.max_dto = ap (λ (p : ListPlan). p.form.max_dto) here in
+    keeps_by_value limit (get_or plans k d) least (is k d inside) (omega (arith, few k d inside, few_odts)) (omega (arith, form, short))

@@ -1,5 +1,5 @@
 -- What an engine that was opened over a store is.
-use Rattle.std.specs.Prelude.{◌≡◌, ℕ, ◌<◌, ◌&&◌, Bool, true, nat_eq, nat_le}
+use Rattle.std.specs.Prelude.{◌≡◌, ℕ, ◌<◌, ◌≤◌, ◌&&◌, Bool, true, nat_eq, nat_le}
 use Rattle.std.specs.Prelude.{All, List, [], length, map, filter}
 use Rattle.std.specs.Prelude.{◌↔◌, false, IfErr, OnOk}
 use Rattle.std.specs.Prelude.{Option, Some, None, Result, Ok, Err}
@@ -8,6 +8,7 @@ use Rattle.xcp_base.specs.declared.limits.TheConstants.{MAX_BYTE_RING, MAX_SAMPL
 use Rattle.xcp_base.specs.declared.limits.TheConstants.{MIN_BYTE_RING, RUN_CHANNELS}
 use Rattle.daq_store.specs.Calls.{numbers_below}
 use Rattle.daq_store.specs.Configuration.{channel_of, is_ready}
+use Rattle.daq_store.specs.Limited.{is_by_value}
 use Rattle.daq_store.specs.Standing.{StoreState, conf_of, first_pid_of, shows_running}
 use Rattle.copy_plan.specs.Config.{ListPlan, plan_of}
 use Rattle.channel_ring.specs.declared.ends.SendEnd.{Ghosts as SendGhosts}
@@ -33,11 +34,11 @@ abbrev pub is_byte_cap : ℕ → Bool
 is_byte_cap cap = nat_le MIN_BYTE_RING cap && nat_le cap MAX_BYTE_RING
 
 -- there is one capacity for each event channel, at most RUN_CHANNELS, and a ring of this kind may
--- have each of them
+-- have each of them; and samples of the store find room in a value of fixed size
 abbrev pub fit_caps_of : (ℕ → Bool) → StoreState → List ℕ → Bool
 fit_caps_of may_have s caps =
     nat_eq (length caps) s.profile.channels && nat_le (length caps) RUN_CHANNELS
-    && list_all may_have caps
+    && is_by_value s.profile && list_all may_have caps
 
 -- a DAQ list of the store runs
 abbrev pub some_list_runs : StoreState → Bool
@@ -55,6 +56,10 @@ is_ready_on s c l =
 -- the plan of list l, by what the store has of it
 abbrev pub list_plan : StoreState → ℕ → ListPlan
 list_plan s l = plan_of l (conf_of s l) (first_pid_of s l) s.profile.segments
+
+-- a plan has at most so many ODTs
+abbrev pub HasFewOdts : ℕ → ListPlan → Type 0
+HasFewOdts most plan = length plan.odts ≤ most
 
 -- the plans of the lists that are there, ready and of event channel c, in rising list number
 abbrev pub channel_plans : StoreState → ℕ → List ListPlan

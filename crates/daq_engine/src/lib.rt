@@ -18,6 +18,7 @@ mod ring;
 mod unclosed;
 
 pub use channel_fault::ChannelFault;
+pub use channel_plans::plans_of;
 pub use closing::{account, close};
 pub use engine::Engine;
 pub use engine_opening::engine_over;

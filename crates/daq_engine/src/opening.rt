@@ -1,10 +1,14 @@
 //! Samplers and transmitter are opened over a store, with a ring for each event channel.
-ghost use Rattle.std.specs.Prelude.{◌≡◌, ◌<◌, ◌≤◌, [], false, length, IfOk};
+ghost use Rattle.std.specs.Prelude.{◌≡◌, ◌<◌, ◌≤◌, [], All, false, length, true, IfOk};
 ghost use Rattle.std.specs.List.{list_all};
+ghost use Rattle.copy_plan.specs.Config.{IsPlan};
+ghost use Rattle.daq_store.specs.Limited.{is_by_value};
 ghost use Rattle.sampler.specs.History.{Opening};
+ghost use Rattle.sampler.specs.Limits.{AllKeepTo};
 ghost use Rattle.frame_writer.specs.Writing.{state_of};
 ghost use Rattle.transmitter.specs.Written.{next_of, transmission, writer_of};
-ghost use Rattle.daq_engine.specs.Openings.{AnswersOpening, IsOpenedOver, fit_caps_of};
+ghost use Rattle.daq_engine.specs.Openings.{AnswersOpening, IsOpenedOver};
+ghost use Rattle.daq_engine.specs.Openings.{channel_plans, fit_caps_of};
 ghost use Rattle.daq_engine.specs.Openings.{is_byte_cap, is_cap, some_list_runs};
 ghost use Rattle.daq_engine.specs.Opened.{AreOpenedTo, IsOpenedAt, IsSamplerAt};
 
@@ -13,6 +17,7 @@ use crate::open_fault::OpenFault;
 use crate::ring::Ring;
 use byte_ring::{ByteLeft, ByteRing, ByteSend, ByteTake};
 use channel_ring::{RingEnd, SampleRing, SendEnd, SendHalf, SendLeft, TakeEnd, TakeHalf};
+use copy_plan::CopyPlan;
 use daq_store::Store;
 use frame_writer::{FrameWriter, Out};
 use sampler::Sampler;
@@ -26,7 +31,7 @@ use xcp_base::limits::RUN_CHANNELS;
 ///
 /// Each DAQ list that is ready is in the sampler of its event channel, and runs there where it runs
 /// in the store. The ring of event channel `c` has `caps[c]` places, 1 to `MAX_SAMPLE_RING`; over a
-/// store of more than 8 event channels no capacities fit.
+/// store of more than 8 event channels, or one that isn't by value, no capacities fit.
 /// Refused with `BadCaps`, `NothingRunning` or `Memory`, in this order; then the writer comes back
 /// as it was.
 pub fn open<O: Out>(
@@ -104,14 +109,15 @@ fn are_caps<R: Ring>(caps: &[usize]) -> bool
     caps.iter().all(|&cap| R::is_cap(cap))
 }
 
-/// Whether there is one capacity for each event channel, each within the ring's limits.
+/// Whether there is one capacity for each event channel, each within the ring's limits, and the
+/// samples of the store find room in a value of fixed size.
 fn caps_fit<R: Ring>(store: &Store, caps: &[usize]) -> bool
     ensures { result ≡ fit_caps_of R.is_cap store.now caps.now }
 {
     if caps.len() != store.channels() as usize || caps.len() > RUN_CHANNELS as usize {
         return false;
     }
-    are_caps::<R>(caps)
+    store.is_by_value() && are_caps::<R>(caps)
 }
 
 /// Whether a DAQ list of the store runs.
@@ -121,44 +127,44 @@ fn any_runs(store: &Store) -> bool
     (0..store.lists()).any(|l| store.running(l))
 }
 
-/// The sampler of one event channel of a store, over a send end through which nothing was sent.
-///
-/// It has the DAQ lists of the channel that are ready, and of these run those that run in the
-/// store.
+/// The sampler of one event channel of a store, over a send end through which nothing was sent, and
+/// which takes the samples of these plans: those of the DAQ lists of the channel that are ready, as
+/// `plans_of` returns them. Of these run those that run in the store.
 pub fn sampler_over<S: SendEnd>(
-    alloc: Global,
     store: &Store,
     c: ChannelId,
+    plans: Vec<CopyPlan>,
     end: S,
-) -> Result<Sampler<S>, AllocError>
+) -> Sampler<S>
+    requires of_channel { plans.items ≡ channel_plans store.now c }
+    requires plan { All IsPlan plans.items }
+    requires keep { AllKeepTo (S.limit end) plans.items }
     requires nothing_sent { S.sent end ≡ [] }
-    ensures sampler { IfOk result (λ sampler. (opening : Opening)
-        × IsSamplerAt S.SendEnd S.End.RingEnd store.now c end sampler opening) }
+    ensures sampler { (opening : Opening)
+        × IsSamplerAt S.SendEnd S.End.RingEnd store.now c end result opening }
 {
-    let Ok(plans) = plans_of(alloc, store, c) else {
-        return Err(AllocError);
-    };
     let running = running_of(store, plans.as_slice());
-    Ok(Sampler::over(c.byte(), plans, end, store.segments(), running))
+    Sampler::over(c.byte(), plans, end, store.segments(), running)
 }
 
-/// The sampler of one event channel of a store, and the take end of its ring, which has `cap`
-/// places.
+/// The sampler of one event channel of a store whose samples find room in a value of fixed size,
+/// and the take end of its ring, which has `cap` places.
 pub fn open_channel<R: Ring>(
     alloc: Global,
     store: &Store,
     c: ChannelId,
     cap: usize,
 ) -> Result<(Sampler<R::Send>, R::Take), AllocError>
+    requires by_value { is_by_value store.now.profile ≡ true }
     ensures opened { IfOk result (λ r. (opening : Opening)
         × IsOpenedAt R.Send.SendEnd R.Send.End.RingEnd R.Take.TakeEnd
         store.now c cap r.0 r.1 opening) }
 {
+    let plans = plans_of(alloc, store, c)?;
     let Ok((send, take)) = R::make(alloc, cap) else {
         return Err(AllocError);
     };
-    let sampler = sampler_over(alloc, store, c, send)?;
-    Ok((sampler, take))
+    Ok((sampler_over(store, c, plans, send), take))
 }
 
 /// The samplers of all event channels of the store, and the take ends of their rings.
@@ -168,6 +174,7 @@ fn samplers_of<R: Ring>(
     caps: &[usize],
 ) -> Result<(Vec<Sampler<R::Send>>, Vec<R::Take>), AllocError>
     requires caps { length caps.now ≡ store.now.profile.channels }
+    requires by_value { is_by_value store.now.profile ≡ true }
     ensures opened { IfOk result (λ r.
         AreOpenedTo R.Send.SendEnd R.Send.End.RingEnd R.Take.TakeEnd
         store.now caps.now r.0.items r.1.items) }

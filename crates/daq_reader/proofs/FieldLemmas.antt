@@ -91,6 +91,11 @@ fits plan k q small none =
       len = omega (arith, same (length q) (len_of plan k) passed.len, length-drop (field_len plan.form.id) q);
     }
 
+-- it has the length of its ODT's packet
+pub len_is : (plan : ListPlan) (k : ℕ) (q : List ℕ) → fault_of plan k q ≡ None → length q ≡ len_of plan k
+len_is plan k q none =
+    same (length q) (len_of plan k) (all_passed (nat_lt (length q) (field_len plan.form.id)) (is_of_list plan q) (is_pid plan k q) (length q == len_of plan k) none).len
+
 is_either : (x a b : ℕ) → (x ≡ a) ⊎ (x ≡ b) → (if x == a then true else x == b) ≡ true
 is_either x a b h = grind (arith, nat_tests)
 

@@ -3,6 +3,7 @@ pub mod CutLemmas
 pub mod FieldLemmas
 pub mod GivenLemmas
 pub mod ListsLemmas
+pub mod PlaceLemmas
 pub mod ReadingLemmas
 pub mod ReadsLemmas
 pub mod ReadyLemmas

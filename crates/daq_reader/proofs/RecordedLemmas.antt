@@ -9,13 +9,13 @@ use Rattle.std.proofs.lemmas.List.Elements.{All-drop, All-head, All-nil, All-tai
 use Rattle.std.proofs.lemmas.List.FromFn.{get_or-map-range_with_len, length-map-range_with_len}
 use Rattle.xcp_base.specs.declared.stamp_size.StampSize.{StampSize}
 use Rattle.xcp_base.specs.Forms.{field_len, stamp_bytes, stamp_field}
-use Rattle.xcp_base.specs.Packets.{ArePackets, IsPacket, stamp_len}
+use Rattle.xcp_base.specs.Packets.{stamp_len}
 use Rattle.xcp_base.proofs.FormLemmas.{length-id_field}
 use Rattle.copy_plan.specs.Config.{IsPlan, ListPlan, elements_len, odt}
 use Rattle.copy_plan.specs.Pids.{field, pid}
 use Rattle.daq_reader.specs.Recorded.{AreOf, Begin, FitsStamp, IsRecorded, elements_part, packet_of, packets_of, sizes_of, stamp_part}
 use Rattle.daq_reader.specs.Inner.Cut.{cut, data_in, elements_in, head_len, overload_in, recorded_in, stamp_bytes_in, stamp_in, ticks_of}
-use Rattle.daq_reader.specs.Inner.Fitting.{FitInOrder, Fits}
+use Rattle.daq_reader.specs.Inner.Fitting.{FitInOrder, Fits, HasBytes, HaveBytes}
 use Rattle.daq_reader.proofs.CutLemmas.{joined, joined-cut, sizes, sizes-cut, stamp_field-ticks_of, ticks_of-fits}
 use Rattle.daq_reader.proofs.BeginLemmas.{get-packets_of, length-packets_of}
 
@@ -65,12 +65,12 @@ small_at [] i h = omega arith
 small_at (x ∷ xs) zero h = All-head (λ (b : ℕ). b < 256) x xs h
 small_at (x ∷ xs) (suc i) h = small_at xs i (All-tail (λ (b : ℕ). b < 256) x xs h)
 
-first_small : (qs : List (List ℕ)) → ArePackets qs → All (λ (b : ℕ). b < 256) (get_or qs 0 [])
+first_small : (qs : List (List ℕ)) → HaveBytes qs → All (λ (b : ℕ). b < 256) (get_or qs 0 [])
 first_small [] h = All-nil (λ (b : ℕ). b < 256)
-first_small (q ∷ qs) h = (All-head IsPacket q qs h).bytes
+first_small (q ∷ qs) h = All-head HasBytes q qs h
 
 -- the bytes of the timestamp are bytes
-stamp_small : (plan : ListPlan) (qs : List (List ℕ)) → ArePackets qs → (i : ℕ) → get_or (stamp_bytes_in plan qs) i 0 < 256
+stamp_small : (plan : ListPlan) (qs : List (List ℕ)) → HaveBytes qs → (i : ℕ) → get_or (stamp_bytes_in plan qs) i 0 < 256
 stamp_small plan qs h i =
     let byte = λ (b : ℕ). b < 256 in
     let behind : All (λ (b : ℕ). b < 256) (drop (field_len plan.form.id) (get_or qs 0 [])) = All-drop (λ (b : ℕ). b < 256) (field_len plan.form.id) (get_or qs 0 []) (first_small qs h) in
@@ -81,7 +81,7 @@ fits_if size true n h = h
 fits_if size false n h = tt
 
 -- it is a sample of the list
-pub is_recorded : (plan : ListPlan) (qs : List (List ℕ)) → FitInOrder plan qs → ArePackets qs → IsRecorded plan (recorded_in plan qs)
+pub is_recorded : (plan : ListPlan) (qs : List (List ℕ)) → FitInOrder plan qs → HaveBytes qs → IsRecorded plan (recorded_in plan qs)
 is_recorded plan qs h are = record {
   stamp = fits_if plan.form.stamp plan.stamped (ticks_of plan.form.stamp (stamp_bytes_in plan qs)) (ticks_of-fits plan.form.stamp (stamp_bytes_in plan qs) (stamp_small plan qs are));
   elements = sizes_are plan qs h;
@@ -124,7 +124,7 @@ length-front : (n : ℕ) (bytes : List ℕ) → n ≤ length bytes → length (t
 length-front n bytes h = simp length-take (omega arith)
 
 -- the timestamp that was read is written as it was
-stamp_is : (plan : ListPlan) (qs : List (List ℕ)) (k : ℕ) (h : Fits plan k (get_or qs k [])) → ArePackets qs → (k == 0) ≡ true → plan.stamped ≡ true → stamp_field plan.form.stamp (ticks_of plan.form.stamp (stamp_bytes_in plan qs)) ≡ take (stamp_bytes plan.form.stamp) h.rest
+stamp_is : (plan : ListPlan) (qs : List (List ℕ)) (k : ℕ) (h : Fits plan k (get_or qs k [])) → HaveBytes qs → (k == 0) ≡ true → plan.stamped ≡ true → stamp_field plan.form.stamp (ticks_of plan.form.stamp (stamp_bytes_in plan qs)) ≡ take (stamp_bytes plan.form.stamp) h.rest
 stamp_is plan qs k h are first is =
     let same : take (stamp_bytes plan.form.stamp) (drop (field_len plan.form.id) (get_or qs 0 [])) ≡ take (stamp_bytes plan.form.stamp) h.rest
     = ap (λ i. take (stamp_bytes plan.form.stamp) (drop (field_len plan.form.id) (get_or qs i []))) (sym (is_zero k first)) ∙ ap (take (stamp_bytes plan.form.stamp)) (behind_field plan k (get_or qs k []) h) in
@@ -133,7 +133,7 @@ stamp_is plan qs k h are first is =
     stamp_field-ticks_of plan.form.stamp (stamp_bytes_in plan qs) long (stamp_small plan qs are) ∙ same
 
 -- what follows the identification field is the timestamp and the elements
-rest_is : (plan : ListPlan) (qs : List (List ℕ)) (k : ℕ) (h : Fits plan k (get_or qs k [])) → FitInOrder plan qs → ArePackets qs → k < length qs → stamp_part plan.form.stamp k (stamp_in plan qs) ++ elements_part (recorded_in plan qs) k ≡ h.rest
+rest_is : (plan : ListPlan) (qs : List (List ℕ)) (k : ℕ) (h : Fits plan k (get_or qs k [])) → FitInOrder plan qs → HaveBytes qs → k < length qs → stamp_part plan.form.stamp k (stamp_in plan qs) ++ elements_part (recorded_in plan qs) k ≡ h.rest
 rest_is plan qs k h fit are here =
     let there : k < length plan.odts = omega (arith, here, fit.few) in
     let part : List ℕ = stamp_part plan.form.stamp k (stamp_in plan qs) in
@@ -166,7 +166,7 @@ field_is plan qs k h true is e = ap (field plan k) (at_zero plan qs k h is (is_z
 field_is plan qs k h false is e = other_field plan k (overload_in qs) h.overload e
 
 -- each packet is that of the sample
-packet_is : (plan : ListPlan) (qs : List (List ℕ)) (k : ℕ) → IsPlan plan → FitInOrder plan qs → ArePackets qs → k < length qs → packet_of plan (recorded_in plan qs) k ≡ get_or qs k []
+packet_is : (plan : ListPlan) (qs : List (List ℕ)) (k : ℕ) → IsPlan plan → FitInOrder plan qs → HaveBytes qs → k < length qs → packet_of plan (recorded_in plan qs) k ≡ get_or qs k []
 unfolding packet_of
 packet_is plan qs k is fit are here =
     let h : Fits plan k (get_or qs k []) = fit.each k here in
@@ -182,7 +182,7 @@ front_is qs ps few each =
     get_or-take (length qs) ps k [] here ∙ each k here) in
     ap (λ xs. xs ++ drop (length qs) ps) (sym front) ∙ take-append-drop (length qs) ps
 
-packets_front : (plan : ListPlan) (qs : List (List ℕ)) → IsPlan plan → FitInOrder plan qs → ArePackets qs → qs ++ drop (length qs) (packets_of plan (recorded_in plan qs)) ≡ packets_of plan (recorded_in plan qs)
+packets_front : (plan : ListPlan) (qs : List (List ℕ)) → IsPlan plan → FitInOrder plan qs → HaveBytes qs → qs ++ drop (length qs) (packets_of plan (recorded_in plan qs)) ≡ packets_of plan (recorded_in plan qs)
 packets_front plan qs is fit are =
     let count = length-packets_of plan (recorded_in plan qs) in
     front_is qs (packets_of plan (recorded_in plan qs)) (omega (arith, fit.few, count)) (λ k here.
@@ -190,7 +190,7 @@ packets_front plan qs is fit are =
     get-packets_of plan (recorded_in plan qs) k there ∙ packet_is plan qs k is fit are here)
 
 -- packets that fit begin those of a sample
-pub begin : (plan : ListPlan) (qs : List (List ℕ)) → IsPlan plan → FitInOrder plan qs → ArePackets qs → Begin plan qs
+pub begin : (plan : ListPlan) (qs : List (List ℕ)) → IsPlan plan → FitInOrder plan qs → HaveBytes qs → Begin plan qs
 begin plan qs is fit are = record {
   sample = recorded_in plan qs;
   is = is_recorded plan qs fit are;
@@ -198,7 +198,7 @@ begin plan qs is fit are = record {
 }
 
 -- and where each ODT has its packet, they are those of the sample
-pub are_of : (plan : ListPlan) (qs : List (List ℕ)) → IsPlan plan → FitInOrder plan qs → ArePackets qs → length qs ≡ length plan.odts → AreOf plan (recorded_in plan qs) qs
+pub are_of : (plan : ListPlan) (qs : List (List ℕ)) → IsPlan plan → FitInOrder plan qs → HaveBytes qs → length qs ≡ length plan.odts → AreOf plan (recorded_in plan qs) qs
 are_of plan qs is fit are all =
     let none : drop (length qs) (packets_of plan (recorded_in plan qs)) ≡ [] = drop_of_length-le (packets_of plan (recorded_in plan qs)) (omega (arith, all, length-packets_of plan (recorded_in plan qs))) in
     record {

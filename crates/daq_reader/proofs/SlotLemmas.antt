@@ -22,7 +22,7 @@ entries-laid_out n (e ∷ es) = ap (λ rest. e ∷ rest) (entries-laid_out (n + 
 pub record SlotsSoFar (c : ℕ) (segments : List Segment) (done : List Slot) (bytes entry : ℕ) (es : List (Option Entry)) : Type 0 where
   pub slots : done ++ laid_out bytes (written_entries c segments (drop entry es)) ≡ laid_out 0 (written_entries c segments es)
   pub len : bytes + bytes_of (written_entries c segments (drop entry es)) ≡ bytes_of (written_entries c segments es)
-  pub small : bytes ≤ 63 * entry
+  pub small : bytes ≤ 255 * entry
 
 drop_none : (i : ℕ) → drop {A = Option Entry} i [] ≡ []
 drop_none zero = refl
@@ -44,7 +44,7 @@ skipped c segments slots len i es h none =
       small = omega (arith, h.small);
     }
 
-pub laid : (c : ℕ) (segments : List Segment) (slots : List Slot) (len i : ℕ) (es : List (Option Entry)) (e : OdtEntry) → SlotsSoFar c segments slots len i es → Some e ≡ shown c segments es i → e.1 ≤ 63 → SlotsSoFar c segments (slots ++ record { in_image = e.0; size = e.1; start = len } ∷ []) (len + e.1) (i + 1) es
+pub laid : (c : ℕ) (segments : List Segment) (slots : List Slot) (len i : ℕ) (es : List (Option Entry)) (e : OdtEntry) → SlotsSoFar c segments slots len i es → Some e ≡ shown c segments es i → e.1 ≤ 255 → SlotsSoFar c segments (slots ++ record { in_image = e.0; size = e.1; start = len } ∷ []) (len + e.1) (i + 1) es
 laid c segments slots len i es e h is size =
     let rest : List OdtEntry = written_entries c segments (drop (i + 1) es) in
     let step : written_entries c segments (drop i es) ≡ e ∷ rest = written_entries-drop c segments es i e is in

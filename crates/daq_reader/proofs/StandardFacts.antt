@@ -26,27 +26,27 @@ stamped_list form = record {
 marked : Recorded
 marked = record { overload = true; stamp = Some 0x01020304; elements = ((0xAA ∷ []) ∷ []) ∷ ((0xBB ∷ []) ∷ []) ∷ [] }
 
-packets-marked : packets_of (stamped_list (record { id = Absolute; stamp = Four })) marked ≡ (0x81 ∷ 0x04 ∷ 0x03 ∷ 0x02 ∷ 0x01 ∷ 0xAA ∷ []) ∷ (0x02 ∷ 0xBB ∷ []) ∷ []
+packets-marked : packets_of (stamped_list (record { id = Absolute; stamp = Four; max_dto = 64 })) marked ≡ (0x81 ∷ 0x04 ∷ 0x03 ∷ 0x02 ∷ 0x01 ∷ 0xAA ∷ []) ∷ (0x02 ∷ 0xBB ∷ []) ∷ []
 unfolding packets_of packet_of stamped_list marked
 packets-marked = refl
 
 -- the second packet is awaited: a short one, one of another list, the first once more, one too long
-fault-none : fault_of (stamped_list (record { id = Absolute; stamp = Four })) 1 (0x02 ∷ 0xBB ∷ []) ≡ None
+fault-none : fault_of (stamped_list (record { id = Absolute; stamp = Four; max_dto = 64 })) 1 (0x02 ∷ 0xBB ∷ []) ≡ None
 unfolding stamped_list
 fault-none = refl
 
-fault-no_field : fault_of (stamped_list (record { id = RelativeWord; stamp = One })) 1 (0x01 ∷ 0x01 ∷ []) ≡ Some OtherList
+fault-no_field : fault_of (stamped_list (record { id = RelativeWord; stamp = One; max_dto = 64 })) 1 (0x01 ∷ 0x01 ∷ []) ≡ Some OtherList
 unfolding stamped_list
 fault-no_field = refl
 
-fault-other_list : fault_of (stamped_list (record { id = Absolute; stamp = Four })) 1 (0x03 ∷ 0xBB ∷ []) ≡ Some OtherList
+fault-other_list : fault_of (stamped_list (record { id = Absolute; stamp = Four; max_dto = 64 })) 1 (0x03 ∷ 0xBB ∷ []) ≡ Some OtherList
 unfolding stamped_list
 fault-other_list = refl
 
-fault-out_of_turn : fault_of (stamped_list (record { id = Absolute; stamp = Four })) 1 (0x82 ∷ 0xBB ∷ []) ≡ Some OutOfTurn
+fault-out_of_turn : fault_of (stamped_list (record { id = Absolute; stamp = Four; max_dto = 64 })) 1 (0x82 ∷ 0xBB ∷ []) ≡ Some OutOfTurn
 unfolding stamped_list
 fault-out_of_turn = refl
 
-fault-wrong_length : fault_of (stamped_list (record { id = Absolute; stamp = Four })) 1 (0x02 ∷ 0xBB ∷ 0x00 ∷ []) ≡ Some WrongLength
+fault-wrong_length : fault_of (stamped_list (record { id = Absolute; stamp = Four; max_dto = 64 })) 1 (0x02 ∷ 0xBB ∷ 0x00 ∷ []) ≡ Some WrongLength
 unfolding stamped_list
 fault-wrong_length = refl

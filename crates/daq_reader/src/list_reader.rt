@@ -1,9 +1,12 @@
 //! The packets of one DAQ list become samples again.
-ghost use Rattle.std.specs.Prelude.{◌≡◌, ◌==◌, ◌↔◌, ◌<◌, ◌≤◌, if◌then◌else◌, [], ◌∷◌, ◌++◌};
+ghost use Rattle.std.specs.Prelude.{◌≡◌, ◌↔◌, ◌<◌, [], ◌∷◌, ◌++◌};
 ghost use Rattle.std.specs.Prelude.{IfErr, IfOk, IfSome, IsOk, IsSome, false};
-ghost use Rattle.std.specs.Prelude.{None, OnErr, OnOk, Some, length, true};
+ghost use Rattle.std.specs.Prelude.{None, OnErr, OnOk, Some, length, map, set, slice_index_or};
+ghost use Rattle.std.specs.Prelude.{true, vec_items};
+ghost use Rattle.copy_plan.specs.Config.{IsPlan};
 ghost use Rattle.daq_reader.specs.Faults.{fault_of};
 ghost use Rattle.daq_reader.specs.Inner.Fitting.{IsReading};
+ghost use Rattle.daq_reader.specs.Inner.Places.{HavePlaces};
 ghost use Rattle.daq_reader.specs.Lists.{is_of};
 ghost use Rattle.daq_reader.specs.Reading.{is_whole, under_way};
 ghost use Rattle.daq_reader.specs.Recorded.{AreOf, Begin};
@@ -11,41 +14,42 @@ ghost use Rattle.daq_reader.specs.Recorded.{AreOf, Begin};
 use crate::list_shape::ListShape;
 use crate::packet_fault::PacketFault;
 use crate::sample_view::SampleView;
+use std::alloc::{AllocError, Global};
 use std::marker::Model;
-use xcp_base::Packets;
-use xcp_base::limits::{MAX_DTO, MAX_ODTS};
 
 /// Reads the samples of one DAQ list off its packets, one packet after another.
 ///
-/// It has room for the packets of one sample, and takes no memory.
+/// It has room for the packets of one sample, and takes no memory once it is made.
 #[derive(Drop)]
 pub struct ListReader {
     shape: ListShape,
-    packets: Packets,
+    places: Vec<Vec<u8>>,
+    taken: usize,
 }
 
 impl Model for ListReader {
+    ghost use Rattle.std.specs.Prelude.{map, vec_items};
     ghost use Rattle.daq_reader.specs.Reading.{Reading};
-    ghost use Rattle.daq_reader.specs.Inner.Fitting.{IsReading};
+    ghost use Rattle.daq_reader.specs.Inner.Places.{IsReader, reading_in};
 
     ghost Value = { Reading };
 
-    ghost view = { λ a. record { plan = a.shape; packets = a.packets } };
+    ghost view = { λ a. reading_in a.shape a.taken (map vec_items a.places.items) };
 
-    ghost invariant = { λ a. IsReading (record { plan = a.shape; packets = a.packets }) };
+    ghost invariant = { λ a. IsReader a.shape a.taken (map vec_items a.places.items) };
 }
 
 impl ListReader {
-    /// Before the first packet of the list.
-    pub fn new(shape: ListShape) -> ListReader
-        ensures { result ≡ record { plan = shape; packets = [] } }
+    /// Before the first packet of the list. Lack of memory is the only fault.
+    pub fn new(alloc: Global, shape: ListShape) -> Result<ListReader, AllocError>
+        ensures { IfOk result (λ reader. reader ≡ record { plan = shape; packets = [] }) }
     {
-        // for the proof: gives `plan` of the shape, which a reader is to have
-        shape.odts();
-        ListReader {
+        let places = places_of(alloc, &shape)?;
+        Ok(ListReader {
             shape,
-            packets: Packets::new(),
-        }
+            places,
+            taken: 0,
+        })
     }
 
     /// The shape of the list.
@@ -60,7 +64,7 @@ impl ListReader {
         ensures value { result ≡ length (under_way self.now) }
         ensures below { result < length self.now.plan.odts }
     {
-        let taken = self.packets.len();
+        let taken = self.taken();
         if taken == self.shape.odts() {
             return 0;
         }
@@ -96,14 +100,14 @@ impl ListReader {
     pub fn is_whole(&self) -> bool
         ensures { result ≡ is_whole self.now }
     {
-        self.packets.len() == self.shape.odts()
+        self.taken() == self.shape.odts()
     }
 
     /// Whether packets wait for others of their sample.
     pub fn waits(&self) -> bool
         ensures { (result ≡ false) ↔ (under_way self.now ≡ []) }
     {
-        self.packets.len() > 0 && !self.is_whole()
+        self.taken() > 0 && !self.is_whole()
     }
 
     /// Whether a packet has an identification field that names the list.
@@ -125,8 +129,15 @@ impl ListReader {
         }
         Some(SampleView {
             shape: &self.shape,
-            packets: &self.packets,
+            packets: self.places.as_slice(),
         })
+    }
+
+    /// The number of the packets that are there.
+    fn taken(&self) -> usize
+        ensures { result ≡ length self.now.packets }
+    {
+        self.taken
     }
 
     /// What is wrong with a packet if that of ODT `k` is expected.
@@ -144,22 +155,29 @@ impl ListReader {
         requires fits { fault_of self.old.plan k packet.now ≡ None }
         ensures { self.new ≡ record self.old { packets = under_way self.old ++ packet.now ∷ [] } }
     {
-        put_behind(&mut self.packets, k, packet);
+        fill_place(&mut self.places, k, packet);
+        self.taken = k + 1;
     }
 }
 
-/// Puts a packet behind the `k` that are there, or in the place of all if `k` is 0.
-fn put_behind(packets: &mut Packets, k: usize, packet: &[u8])
-    requires all { 0 < k → k ≡ length packets.old }
-    requires room { k < MAX_ODTS }
-    requires some { 0 < length packet.now }
-    requires fits { length packet.now ≤ MAX_DTO }
-    ensures { packets.new ≡ (if k == 0 then [] else packets.old) ++ packet.now ∷ [] }
+/// A place for the packet of each ODT of a list, of its length.
+fn places_of(alloc: Global, shape: &ListShape) -> Result<Vec<Vec<u8>>, AllocError>
+    ensures places { IfOk result (λ places. HavePlaces shape.now (map vec_items places.items)) }
+    ensures plan { IsPlan shape.now }
 {
-    if k == 0 {
-        packets.clear();
+    let mut places = Vec::with_capacity(alloc, shape.odts())?;
+    for k in 0..shape.odts() {
+        places.push(vec![in alloc; 0; shape.packet_len(k)]?)?;
     }
-    let Ok(()) = packets.push(packet) else {
-        unreachable!();
-    };
+    Ok(places)
+}
+
+/// Puts a packet in its place.
+fn fill_place(places: &mut Vec<Vec<u8>>, k: usize, packet: &[u8])
+    requires there { k < length places.old.items }
+    requires long { length packet.now
+        ≡ length (slice_index_or (map vec_items places.old.items) k []) }
+    ensures { map vec_items places.new.items ≡ set (map vec_items places.old.items) k packet.now }
+{
+    places[k].as_mut_slice().copy_from_slice(packet);
 }

@@ -17,7 +17,7 @@ use segments::{Segment, Segments};
 use std::alloc::{AllocError, Global};
 use std::marker::Model;
 use std::snapshot::Snapshot;
-use xcp_base::limits::{MAX_LISTS, MAX_ODTS};
+use xcp_base::limits::{MAX_LISTS, MAX_ODTS_IN_ALL};
 use xcp_base::{IdKind, PacketForm};
 
 /// What the samples of one ready DAQ list look like: the form of their packets, and the entries of
@@ -240,7 +240,7 @@ fn slots_of_odts(
 ) -> Result<Vec<Slots>, AllocError>
     ensures value { IfOk result (λ odts. odts.items
         ≡ map (written_entries (channel_of conf.now.mode) segments.now) conf.now.odts) }
-    ensures limit { IfOk result (λ _. length conf.now.odts ≤ MAX_ODTS) }
+    ensures limit { IfOk result (λ _. length conf.now.odts ≤ MAX_ODTS_IN_ALL) }
 {
     let mut odts = Vec::with_capacity(alloc, conf.odts())?;
     for odt in 0..conf.odts() {

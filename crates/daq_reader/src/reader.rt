@@ -42,7 +42,7 @@ impl Reader {
     }
 
     /// One more list, before its first packet. Lack of memory is the only fault.
-    pub fn add(&mut self, shape: ListShape) -> Result<(), AllocError>
+    pub fn add(&mut self, alloc: Global, shape: ListShape) -> Result<(), AllocError>
         ensures ok { OnOk result
             (self.new ≡ self.old ++ record { plan = shape; packets = [] } ∷ []) }
         ensures stands { Stands self.old [] [] → OnOk result (Stands self.new [] []) }
@@ -50,7 +50,7 @@ impl Reader {
     {
         // for the proof: gives `plan` of the shape, which the lists of a reader have
         shape.odts();
-        self.lists.push(ListReader::new(shape))?;
+        self.lists.push(ListReader::new(alloc, shape)?)?;
         Ok(())
     }
 

@@ -34,7 +34,7 @@ fn add_list(alloc: Global, reader: &mut Reader, store: &Store, l: u16) -> Result
     ensures stands { Stands reader.old [] [] → OnOk result (Stands reader.new [] []) }
 {
     if let Some(shape) = shape_of(alloc, store, l)? {
-        reader.add(shape)?;
+        reader.add(alloc, shape)?;
     }
     Ok(())
 }

@@ -1,20 +1,21 @@
 //! What a sample shows: its overload indication, its timestamp, the bytes of its entries.
-ghost use Rattle.std.specs.Prelude.{◌≡◌, ◌<◌, [], length, slice_index_or};
+ghost use Rattle.std.specs.Prelude.{◌≡◌, ◌<◌, [], length, map, slice_index_or, vec_items};
 ghost use Rattle.std.specs.Option.{option_copied};
 ghost use Rattle.daq_reader.specs.Recorded.{element};
 
 use crate::list_shape::ListShape;
 use std::marker::Model;
-use xcp_base::{Packets, StampSize};
+use xcp_base::StampSize;
 
 /// A whole sample of a DAQ list, read in place off its packets.
 #[derive(Drop)]
 pub struct SampleView<'a> {
     pub(crate) shape: &'a ListShape,
-    pub(crate) packets: &'a Packets,
+    pub(crate) packets: &'a [Vec<u8>],
 }
 
 impl<'a> Model for SampleView<'a> {
+    ghost use Rattle.std.specs.Prelude.{map, vec_items};
     ghost use Rattle.daq_reader.specs.Reading.{Shown};
     ghost use Rattle.daq_reader.specs.Inner.Cut.{recorded_in};
     ghost use Rattle.daq_reader.specs.Inner.Fitting.{IsWhole};
@@ -23,10 +24,10 @@ impl<'a> Model for SampleView<'a> {
 
     ghost view = { λ a. record {
       plan = a.shape.now;
-      sample = recorded_in a.shape.now a.packets.now;
+      sample = recorded_in a.shape.now (map vec_items a.packets.now);
     } };
 
-    ghost invariant = { λ a. IsWhole a.shape.now a.packets.now };
+    ghost invariant = { λ a. IsWhole a.shape.now (map vec_items a.packets.now) };
 }
 
 impl<'a> SampleView<'a> {
@@ -73,12 +74,9 @@ impl<'a> SampleView<'a> {
 }
 
 /// A packet of a sample.
-fn packet_at(packets: &Packets, k: usize) -> &[u8]
+fn packet_at(packets: &[Vec<u8>], k: usize) -> &[u8]
     requires { k < length packets.now }
-    ensures { result.now ≡ slice_index_or packets.now k [] }
+    ensures { result.now ≡ slice_index_or (map vec_items packets.now) k [] }
 {
-    let Some(packet) = packets.get(k) else {
-        unreachable!();
-    };
-    packet
+    packets[k].as_slice()
 }

@@ -1,17 +1,18 @@
 -- The set-up of a run, and where it stops.
-use Rattle.std.proofs.Common.{◌≡◌, ◌≤◌, ◌⊎◌, ℕ, inl, inr, All, Bool, true, nat_eq, List, [], ◌∷◌, ◌++◌, length, refl, sym, ap, ap₂, subst, ◌∙◌, append_assoc, arith}
+use Rattle.std.proofs.Common.{◌≡◌, ◌≤◌, ◌⊎◌, ℕ, inl, inr, All, Bool, true, nat_eq, nat_le, List, [], ◌∷◌, ◌++◌, length, refl, sym, ap, ap₂, subst, ◌∙◌, append_assoc, arith}
 use Rattle.std.specs.Prelude.{◌&&◌}
 use Rattle.std.specs.List.{list_all}
 use Rattle.std.proofs.lemmas.Bool.{false≢true, le-leb}
 use Rattle.std.proofs.lemmas.Bool.Decides.{eqb_tells}
 use Rattle.std.proofs.lemmas.List.Elements.{All-head, All-tail}
-use Rattle.xcp_base.specs.declared.limits.TheConstants.{MAX_BYTE_RING, MAX_SAMPLE_RING, MIN_BYTE_RING, RUN_CHANNELS}
+use Rattle.xcp_base.specs.declared.limits.TheConstants.{MAX_BYTE_RING, MAX_DTO, MAX_ODTS, MAX_SAMPLE_RING, MIN_BYTE_RING, RUN_CHANNELS}
 use Rattle.run_file.specs.Limits.{HasLimits, IsCap}
 use Rattle.xcp_base.specs.declared.ring_kind.RingKind.{RingKind}
 use Rattle.xcp_base.specs.declared.ring_kind.RingKind.TheVariants.{Bytes, Samples}
 use Rattle.daq_engine.specs.Openings.{fit_caps_of, is_byte_cap, is_cap}
 use Rattle.daq_store.specs.declared.command.Command.{Command}
 use Rattle.daq_store.specs.Calls.{Profile}
+use Rattle.daq_store.specs.Limited.{is_by_value}
 use Rattle.daq_store.specs.Replies.{calls_after_packet, calls_after_packets, packet_reply, replies, reply_bytes}
 use Rattle.daq_store.specs.Standing.{StoreStandsAfter, StoreState}
 use Rattle.frame_writer.specs.Frame.{text}
@@ -87,10 +88,16 @@ all_caps kind (cap ∷ caps) all =
 pub caps_of_kind : (run : RunData) (kind : RingKind) → HasLimits run → run.ring ≡ kind → list_all (may_have kind) run.caps ≡ true
 caps_of_kind run kind limits is = all_caps kind run.caps (subst (λ k. All (IsCap k) run.caps) is limits.caps)
 
+-- the samples of its store find room in a value of fixed size
+run_by_value : (run : RunData) (s : StoreState) → HasLimits run → s.profile ≡ profile_of run → is_by_value s.profile ≡ true
+run_by_value run s limits profile =
+    ap is_by_value profile ∙ ap (λ n. nat_le MAX_ODTS MAX_ODTS && nat_le n MAX_DTO) limits.form
+
 pub caps_fit : (may_have : ℕ → Bool) (run : RunData) (s : StoreState) → HasLimits run → s.profile ≡ profile_of run → list_all may_have run.caps ≡ true
     → fit_caps_of may_have s run.caps ≡ true
 caps_fit may_have run s limits profile fit =
     let channels : length run.caps ≡ s.profile.channels = limits.one_cap_each ∙ sym (ap (λ p. p.channels) profile) in
     let same : nat_eq (length run.caps) s.profile.channels ≡ true = elim (eqb_tells (length run.caps) s.profile.channels) [ inl w ↦ w.0 | inr w ↦ absurd (w.1 channels) ] in
     let few : length run.caps ≤ RUN_CHANNELS = omega (arith, limits.one_cap_each, limits.channels) in
-    ap₂ (λ a b. a && b) (ap₂ (λ a b. a && b) same (le-leb (length run.caps) RUN_CHANNELS few)) fit
+    let many = ap₂ (λ a b. a && b) same (le-leb (length run.caps) RUN_CHANNELS few) in
+    ap₂ (λ a b. a && b) (ap₂ (λ a b. a && b) many (run_by_value run s limits profile)) fit

@@ -1,6 +1,6 @@
 -- The set-up of a run.
 use Rattle.std.specs.Prelude.{◌≡◌, ℕ, List, [], ◌∷◌, ◌++◌}
-use Rattle.xcp_base.specs.declared.limits.TheConstants.{RUN_ENTRIES}
+use Rattle.xcp_base.specs.declared.limits.TheConstants.{MAX_ODTS, RUN_ENTRIES}
 use Rattle.segments.specs.Image.{image_segments}
 use Rattle.daq_store.specs.Calls.{Profile}
 use Rattle.daq_store.specs.Replies.{calls_after_packets, replies}
@@ -16,6 +16,7 @@ abbrev pub profile_of : RunData → Profile
 profile_of run =
     record {
       channels = run.channels;
+      most_odts = MAX_ODTS;
       most_entries = RUN_ENTRIES;
       segments = image_segments run.image_len;
       form = run.form;

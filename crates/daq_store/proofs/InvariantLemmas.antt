@@ -2,7 +2,7 @@
 use Rattle.std.proofs.Common.{inl, inr, nat_lt, not, if◌then◌else◌, Some, None, [], Option, ◌≡◌, ℕ, suc, zero, ◌+◌, ◌<◌, ◌==◌, Bool, true, false, ◌&&◌, ◌||◌, List, ◌∷◌, length, get_or, set, map, refl, sym, ◌∙◌, ap, arith, slice_get, unwrap_or, option_map, sum_by, subst, All, IfSome}
 use Rattle.std.specs.List.{list_any}
 use Rattle.std.proofs.lemmas.Simd.{map-map}
-use Rattle.std.proofs.lemmas.List.{length-set, length-map, length-replicate, get_or-set_same}
+use Rattle.std.proofs.lemmas.List.{length-set, length-map, length-replicate, get_or-map, get_or-set_same}
 use Rattle.std.proofs.Math.Seq.{map-set_same}
 use Rattle.std.proofs.lemmas.List.Folds.{list_any_at}
 use Rattle.std.proofs.lemmas.List.Sums.{sum_by-set}
@@ -15,7 +15,7 @@ use Rattle.daq_store.specs.declared.entry.Entry.{Entry}
 use Rattle.daq_store.specs.declared.mode.Mode.{Mode}
 use Rattle.daq_store.specs.declared.list_state.ListState.{ListState}
 use Rattle.daq_store.specs.Configuration.{Configuration, IsEntry, IsOdt, IsWithinLimits, fresh_conf, odt_entries, is_ready}
-use Rattle.daq_store.specs.Standing.{StoreState, IsStore, IsAtEntry, HasChannel, HasForm, RunsReady, conf_of, odts_of}
+use Rattle.daq_store.specs.Standing.{StoreState, IsStore, IsAtEntry, HasChannel, HasFew, HasForm, RunsReady, conf_of, odts_of}
 use Rattle.daq_store.specs.Inner.Effects.{with_mode, with_entry, unwritten, cleared, start_stopped, synched, is_unready}
 use Rattle.daq_store.proofs.TableLemmas.{sum_by-map, below_from}
 use Rattle.daq_store.proofs.StandingLemmas.{conf_at}
@@ -43,6 +43,23 @@ pointer_kept : (s t : StoreState) (o : Option (ℕ × ℕ × ℕ)) → map all_o
 pointer_kept s t None same h = tt
 pointer_kept s t (Some p) same h = at_kept s t p same h
 
+-- no list has more ODTs, where the ODTs of all are the same
+few_kept : (most : ℕ) (xs ys : List ListState) → map all_odts ys ≡ map all_odts xs → All (HasFew most) xs → All (HasFew most) ys
+few_kept most xs ys same h = λ k d inside.
+    let len : length ys ≡ length xs = sym (length-map ys all_odts) ∙ ap length same ∙ length-map xs all_odts in
+    let there : k < length xs = rw (sym len) inside in
+    let odts : all_odts (get_or ys k d) ≡ all_odts (get_or xs k d)
+    = sym (get_or-map all_odts ys k d [] inside) ∙ ap (λ zs. get_or zs k []) same ∙ get_or-map all_odts xs k d [] there in
+    rw (ap length odts) (h k d there)
+
+-- nor after a change of one list that keeps their number
+few_set : (s : StoreState) (l : ℕ) (x y : ListState) → IsStore s → l < length s.lists → x ≡ get_or s.lists l x
+    → odts_of y ≡ odts_of x → All (HasFew s.profile.most_odts) (set s.lists l y)
+few_set s l x y h inside is same =
+    let was : HasFew s.profile.most_odts (get_or s.lists l x) = All-get_or (HasFew s.profile.most_odts) s.lists l x inside h.few in
+    let own : HasFew s.profile.most_odts y = rw (same ∙ ap odts_of is) was in
+    All-set (HasFew s.profile.most_odts) s.lists l y own h.few
+
 -- the lists are others with the same ODTs, and those that run are ready
 pub same_odts_keep : (s : StoreState) (ys : List ListState) → IsStore s → map all_odts ys ≡ map all_odts s.lists
     → All (HasForm s.profile.form) ys → All (HasChannel s.profile.channels) ys → All (RunsReady s.profile.segments) ys
@@ -54,8 +71,11 @@ same_odts_keep s ys h same forms modes runs =
     record {
       channels = h.channels;
       segments = h.segments;
+      few_odts = h.few_odts;
+      form_is = h.form_is;
       lists = rw len h.lists;
       odts = rw total h.odts;
+      few = few_kept s.profile.most_odts s.lists ys same h.few;
       forms = forms;
       modes = modes;
       running = runs;
@@ -115,8 +135,11 @@ moved_keeps s l k e x h inside is =
     record {
       channels = h.channels;
       segments = h.segments;
+      few_odts = h.few_odts;
+      form_is = h.form_is;
       lists = h.lists;
       odts = h.odts;
+      few = h.few;
       forms = h.forms;
       modes = h.modes;
       running = h.running;
@@ -127,6 +150,7 @@ moved_keeps s l k e x h inside is =
 pub unset_keeps : (x : Configuration) → IsWithinLimits x → IsWithinLimits (record x { mode = None; odts = map unwritten x.odts })
 unset_keeps x h = record {
   mode = tt;
+  form = h.form;
   count = rw (length-map x.odts unwritten) h.count;
   odts = All-map IsOdt unwritten x.odts (λ k d inside.
       let odt : List (Option Entry) = get_or x.odts k d in
@@ -146,8 +170,11 @@ clear_keeps s l x h inside is =
     record {
       channels = h.channels;
       segments = h.segments;
+      few_odts = h.few_odts;
+      form_is = h.form_is;
       lists = rw (length-set s.lists l y) h.lists;
       odts = omega (arith, sum_by-set odts_of s.lists l y x inside, own, got, h.odts);
+      few = few_set s l x y h inside is own;
       forms = forms_set s l x y h inside is refl;
       modes = All-set (HasChannel s.profile.channels) s.lists l y tt h.modes;
       running = All-set (RunsReady s.profile.segments) s.lists l y (stopped_is_ready s.profile.segments y refl) h.running;
@@ -245,8 +272,11 @@ entry_keeps s l k e x entry h inside is stopped there =
     record {
       channels = h.channels;
       segments = h.segments;
+      few_odts = h.few_odts;
+      form_is = h.form_is;
       lists = rw (length-set s.lists l y) h.lists;
       odts = omega (arith, sum_by-set odts_of s.lists l y x inside, own, got, h.odts);
+      few = few_set s l x y h inside is own;
       forms = forms;
       modes = modes_set s l x y h inside is refl;
       running = All-set (RunsReady s.profile.segments) s.lists l y (stopped_is_ready s.profile.segments y stopped) h.running;

@@ -41,7 +41,7 @@ fault-none : packet_fault (0xDD ∷ 0x00 ∷ []) ≡ None
 fault-none = refl
 
 profile : Profile
-profile = record { channels = 1; most_entries = 32; segments = image_segments 4; form = usual_form }
+profile = record { channels = 1; most_odts = 8; most_entries = 32; segments = image_segments 4; form = usual_form }
 
 RES : List ℕ
 RES = 0xFF ∷ []

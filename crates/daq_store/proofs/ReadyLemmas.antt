@@ -6,7 +6,6 @@ use Rattle.std.proofs.lemmas.List.{get_or_default}
 use Rattle.std.proofs.lemmas.List.Folds.{list_all-append, list_all_at, list_all_more}
 use Rattle.std.proofs.lemmas.List.FromFn.{get_or-range_with_len, length-range_with_len}
 use Rattle.std.proofs.lemmas.Option.{unwrap_or-slice_get}
-use Rattle.xcp_base.specs.declared.limits.TheConstants.{MAX_DTO}
 use Rattle.xcp_base.specs.Packets.{packet_len}
 use Rattle.segments.specs.declared.segment.Segment.{Segment}
 use Rattle.daq_store.specs.declared.entry.Entry.{Entry}
@@ -35,8 +34,8 @@ pub all_taken : {X : Type 0} (test : X → Bool) (xs : List X) (k : ℕ) (x : X)
     → list_all test (take k xs) ≡ true → test x ≡ true → list_all test (take (k + 1) xs) ≡ true
 all_taken test xs k x inside is all here = list_all_more test xs k x inside ∙ rw (all, ← is, here) refl
 
-pub short_is : (n : ℕ) → n ≤ MAX_DTO → nat_le n MAX_DTO ≡ true
-short_is n h = elim (leb_tells n MAX_DTO) [ inl t ↦ t.0 | inr t ↦ absurd (omega (arith, h, t.1)) ]
+pub short_is : (n most : ℕ) → n ≤ most → nat_le n most ≡ true
+short_is n most h = elim (leb_tells n most) [ inl t ↦ t.0 | inr t ↦ absurd (omega (arith, h, t.1)) ]
 
 -- the entries of an ODT, as a loop finds it
 pub odt_at : (c : Configuration) (k : ℕ) (x : List (Option Entry)) → k < length c.odts → x ≡ get_or c.odts k x → odt_entries c k ≡ x
@@ -47,11 +46,11 @@ and_false : (b : Bool) → (b && false) ≡ false
 and_false true = refl
 and_false false = refl
 
-pub long_packet : (segments : List Segment) (c : Configuration) (k : ℕ) → k < length c.odts → MAX_DTO < packet_len c.form (is_stamped c.mode) k (entries_len c k) → false ≡ is_ready segments c
+pub long_packet : (segments : List Segment) (c : Configuration) (k : ℕ) → k < length c.odts → c.form.max_dto < packet_len c.form (is_stamped c.mode) k (entries_len c k) → false ≡ is_ready segments c
 long_packet segments c k inside long =
     let test : ℕ → Bool = is_short c in
     let fails : test k ≡ false
-    = elim (leb_tells (packet_len c.form (is_stamped c.mode) k (entries_len c k)) MAX_DTO) as (λ v. test k ≡ false) [ inl short ↦ absurd (omega (arith, long, short.1)) | inr t ↦ t.0 ] in
+    = elim (leb_tells (packet_len c.form (is_stamped c.mode) k (entries_len c k)) c.form.max_dto) as (λ v. test k ≡ false) [ inl short ↦ absurd (omega (arith, long, short.1)) | inr t ↦ t.0 ] in
     let at : get_or (numbers_below (length c.odts)) k 0 ≡ k = get_or-range_with_len 0 (length c.odts) k 0 inside ∙ zero-add k in
     let within : k < length (numbers_below (length c.odts)) = rw (length-range_with_len 0 (length c.odts)) inside in
     let short : are_short c ≡ false = list_all_at test (numbers_below (length c.odts)) k 0 within (ap test at ∙ fails) in

@@ -22,7 +22,7 @@ use Rattle.daq_store.specs.Answer.{answers, calls_after}
 
 -- one event channel, and images of so many bytes
 abbrev images_of : ℕ → Profile
-images_of n = record { channels = 1; most_entries = 32; segments = image_segments n; form = usual_form }
+images_of n = record { channels = 1; most_odts = 8; most_entries = 32; segments = image_segments n; form = usual_form }
 
 -- the calls that stand after a list of calls that were asked for, the first of which stands first here
 abbrev stand_after : Profile → List Command → List Command → List Command
@@ -121,17 +121,17 @@ abbrev last_answer : PacketForm → ℕ → ℕ → List Reply
 last_answer form mode size = drop 6 (answers (record (images_of 64) { form = form }) [] (one_packet mode size))
 
 list_numbers_count :
-    (last_answer (record { id = RelativeByte; stamp = Four }) 0x10 58 ≡ Started 0 ∷ [])
-    × (last_answer (record { id = RelativeByte; stamp = Four }) 0x10 59 ≡ Error DaqConfig ∷ [])
-    × (last_answer (record { id = RelativeWord; stamp = Four }) 0x10 57 ≡ Started 0 ∷ [])
-    × (last_answer (record { id = RelativeWord; stamp = Four }) 0x10 58 ≡ Error DaqConfig ∷ [])
+    (last_answer (record { id = RelativeByte; stamp = Four; max_dto = 64 }) 0x10 58 ≡ Started 0 ∷ [])
+    × (last_answer (record { id = RelativeByte; stamp = Four; max_dto = 64 }) 0x10 59 ≡ Error DaqConfig ∷ [])
+    × (last_answer (record { id = RelativeWord; stamp = Four; max_dto = 64 }) 0x10 57 ≡ Started 0 ∷ [])
+    × (last_answer (record { id = RelativeWord; stamp = Four; max_dto = 64 }) 0x10 58 ≡ Error DaqConfig ∷ [])
 list_numbers_count = (refl, refl, refl, refl)
 
 short_timestamps_count :
-    (last_answer (record { id = Absolute; stamp = One }) 0x10 62 ≡ Started 0 ∷ [])
-    × (last_answer (record { id = Absolute; stamp = One }) 0x10 63 ≡ Error DaqConfig ∷ [])
-    × (last_answer (record { id = Absolute; stamp = Two }) 0x10 61 ≡ Started 0 ∷ [])
-    × (last_answer (record { id = Absolute; stamp = Two }) 0x10 62 ≡ Error DaqConfig ∷ [])
+    (last_answer (record { id = Absolute; stamp = One; max_dto = 64 }) 0x10 62 ≡ Started 0 ∷ [])
+    × (last_answer (record { id = Absolute; stamp = One; max_dto = 64 }) 0x10 63 ≡ Error DaqConfig ∷ [])
+    × (last_answer (record { id = Absolute; stamp = Two; max_dto = 64 }) 0x10 61 ≡ Started 0 ∷ [])
+    × (last_answer (record { id = Absolute; stamp = Two; max_dto = 64 }) 0x10 62 ≡ Error DaqConfig ∷ [])
 short_timestamps_count = (refl, refl, refl, refl)
 
 unwritten_entry :
@@ -233,7 +233,7 @@ three_segments =
     ∷ record { extension = 1; base = 0x1000; len = 4; events = 0x02 } ∷ []
 
 abbrev over_segments : Profile
-over_segments = record { channels = 2; most_entries = 255; segments = three_segments; form = usual_form }
+over_segments = record { channels = 2; most_odts = 124; most_entries = 255; segments = three_segments; form = usual_form }
 
 -- an entry lies in one segment, and READ_DAQ shows its extension
 abbrev writes_at_seams : List Command

@@ -2,9 +2,8 @@
 -- each call makes, in which order, stands in docs/PROFILE.md as a table.
 use Rattle.std.specs.Prelude.{ℕ, ◌==◌, ◌&&◌, ◌||◌, not, nat_lt, Bool, false, if◌then◌else◌}
 use Rattle.std.specs.Prelude.{List, [], ◌∷◌, Option, Some, None, is_some, is_none}
-use Rattle.xcp_base.specs.declared.limits.TheConstants.{MAX_ENTRY_SIZE, MAX_LISTS}
-use Rattle.xcp_base.specs.declared.limits.TheConstants.{MAX_ODTS}
-use Rattle.xcp_base.specs.Forms.{first_pid_behind, most_odts}
+use Rattle.xcp_base.specs.declared.limits.TheConstants.{MAX_LISTS}
+use Rattle.xcp_base.specs.Forms.{first_pid_behind, most_entry, most_odts}
 use Rattle.xcp_base.specs.declared.err_code.ErrCode.{ErrCode}
 use Rattle.xcp_base.specs.declared.err_code.ErrCode.TheVariants.{DaqActive, OutOfRange}
 use Rattle.xcp_base.specs.declared.err_code.ErrCode.TheVariants.{ModeNotValid, Sequence, DaqConfig}
@@ -32,7 +31,7 @@ use Rattle.daq_store.specs.Configuration.{list_is_ready}
 -- together
 abbrev pub are_too_many : Profile → List Command → ℕ → ℕ → Bool
 are_too_many profile calls l n =
-    nat_lt MAX_ODTS n
+    nat_lt profile.most_odts n
     || nat_lt (most_odts profile.form.id) (odts_before (AllocOdt l n ∷ calls) (list_count calls))
 
 -- the pointer is defined, and its list exists and runs
@@ -40,12 +39,12 @@ abbrev pub is_active_at : List Command → Option (ℕ × ℕ × ℕ) → Bool
 is_active_at calls None = false
 is_active_at calls (Some p) = is_active calls p.0
 
--- an entry that is one bit (a bit offset other than 0xFF), has no byte or too many, or lies in no
--- segment
-abbrev pub is_bad_entry : List Segment → ℕ → ℕ → ℕ → ℕ → Bool
-is_bad_entry segments bit size ext addr =
-    not (bit == 0xFF) || size == 0 || nat_lt MAX_ENTRY_SIZE size
-    || is_none (segment_of segments ext addr size)
+-- an entry that is one bit (a bit offset other than 0xFF), has no byte or more than find room in a
+-- packet, or lies in no segment
+abbrev pub is_bad_entry : Profile → ℕ → ℕ → ℕ → ℕ → Bool
+is_bad_entry profile bit size ext addr =
+    not (bit == 0xFF) || size == 0 || nat_lt (most_entry profile.form) size
+    || is_none (segment_of profile.segments ext addr size)
 
 -- list l is selected and not ready
 abbrev pub selects_unready : Profile → List Command → ℕ → Bool
@@ -74,7 +73,7 @@ checks profile calls (SetDaqPtr list odt entry) =
 checks profile calls (WriteDaq bit size ext addr) =
     (is_active_at calls (pointer calls), DaqActive)
     ∷ (is_none (pointer calls), Sequence)
-    ∷ (is_bad_entry profile.segments bit size ext addr, OutOfRange) ∷ []
+    ∷ (is_bad_entry profile bit size ext addr, OutOfRange) ∷ []
 checks profile calls (SetDaqListMode mode list channel prescaler priority) =
     (is_active calls list, DaqActive)
     ∷ (

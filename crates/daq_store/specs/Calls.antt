@@ -8,10 +8,11 @@ use Rattle.segments.specs.declared.segment.Segment.{Segment}
 use Rattle.daq_store.specs.declared.command.Command.{Command}
 use Rattle.daq_store.specs.declared.command.Command.TheVariants.{FreeDaq}
 
--- what a store is made for: its number of event channels, the most entries of an ODT, the segments
--- in which its entries lie, and the form of its packets
+-- what a store is made for: its number of event channels, the most ODTs of a list and entries of an
+-- ODT, the segments in which its entries lie, and the form of its packets
 pub record Profile : Type 0 where
   pub channels : ℕ
+  pub most_odts : ℕ
   pub most_entries : ℕ
   pub segments : List Segment
   pub form : PacketForm

@@ -3,9 +3,10 @@ use Rattle.std.specs.Prelude.{◌<◌, ◌≤◌, IfSome, All, ℕ, ◌&&◌, na
 use Rattle.std.specs.Prelude.{false, List, [], length, map, slice_get, sum_by}
 use Rattle.std.specs.Prelude.{Option, Some, None, is_some, option_and_then, unwrap_or}
 use Rattle.std.specs.List.{list_all}
-use Rattle.xcp_base.specs.declared.limits.TheConstants.{MAX_CHANNELS, MAX_DTO, MAX_ENTRIES}
-use Rattle.xcp_base.specs.declared.limits.TheConstants.{MAX_ENTRY_SIZE, MAX_ODTS}
+use Rattle.xcp_base.specs.declared.limits.TheConstants.{MAX_CHANNELS, MAX_ENTRIES}
+use Rattle.xcp_base.specs.declared.limits.TheConstants.{MAX_ENTRY_SIZE, MAX_ODTS_IN_ALL}
 use Rattle.xcp_base.specs.declared.packet_form.PacketForm.{PacketForm}
+use Rattle.xcp_base.specs.Forms.{IsForm}
 use Rattle.xcp_base.specs.Packets.{packet_len}
 use Rattle.segments.specs.declared.segment.Segment.{Segment}
 use Rattle.segments.specs.Places.{is_readable}
@@ -84,7 +85,7 @@ is_filled c segments entries =
 
 -- the packet of ODT k has at most MAX_DTO bytes
 abbrev pub is_short : Configuration → ℕ → Bool
-is_short c k = nat_le (packet_len c.form (is_stamped c.mode) k (entries_len c k)) MAX_DTO
+is_short c k = nat_le (packet_len c.form (is_stamped c.mode) k (entries_len c k)) c.form.max_dto
 
 -- the packet of each ODT is short enough
 abbrev pub are_short : Configuration → Bool
@@ -117,5 +118,6 @@ pub record IsOdt (entries : List (Option Entry)) : Type 0 where
 -- what every list keeps to, ready or not
 pub record IsWithinLimits (c : Configuration) : Type 0 where
   pub mode : IfSome c.mode IsMode
-  pub count : length c.odts ≤ MAX_ODTS
+  pub form : IsForm c.form
+  pub count : length c.odts ≤ MAX_ODTS_IN_ALL
   pub odts : All IsOdt c.odts

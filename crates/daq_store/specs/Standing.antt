@@ -3,8 +3,9 @@ use Rattle.std.specs.Prelude.{◌≡◌, ℕ, ◌<◌, ◌≤◌, Bool, true, fa
 use Rattle.std.specs.Prelude.{sum_by, take, slice_get, unwrap_or, option_map, IfSome, All, Option}
 use Rattle.std.specs.Prelude.{Some, None}
 use Rattle.xcp_base.specs.declared.limits.TheConstants.{MAX_CHANNELS, MAX_LISTS}
+use Rattle.xcp_base.specs.declared.limits.TheConstants.{MAX_ODTS_IN_ALL}
 use Rattle.xcp_base.specs.declared.packet_form.PacketForm.{PacketForm}
-use Rattle.xcp_base.specs.Forms.{first_pid_behind, most_odts}
+use Rattle.xcp_base.specs.Forms.{IsForm, first_pid_behind, most_odts}
 use Rattle.segments.specs.declared.segment.Segment.{Segment}
 use Rattle.segments.specs.Segment.{AreWithin}
 use Rattle.daq_store.specs.declared.command.Command.{Command}
@@ -103,6 +104,10 @@ RunsReady segments x = x.running ≡ true → is_ready segments x.conf ≡ true
 abbrev pub HasChannel : ℕ → ListState → Type 0
 HasChannel channels x = IfSome x.conf.mode (λ mode. mode.channel < channels)
 
+-- a list has at most so many ODTs
+abbrev pub HasFew : ℕ → ListState → Type 0
+HasFew most x = length x.conf.odts ≤ most
+
 -- the packets of a list have this form
 abbrev pub HasForm : PacketForm → ListState → Type 0
 HasForm form x = x.conf.form ≡ form
@@ -115,8 +120,11 @@ IsAtEntry s p = p.2 < length (odt_entries (conf_of s p.0) p.1)
 pub record IsStore (s : StoreState) : Type 0 where
   pub channels : (1 ≤ s.profile.channels) × (s.profile.channels ≤ MAX_CHANNELS)
   pub segments : AreWithin s.profile.segments
+  pub few_odts : s.profile.most_odts ≤ MAX_ODTS_IN_ALL
+  pub form_is : IsForm s.profile.form
   pub lists : length s.lists ≤ MAX_LISTS
   pub odts : sum_by odts_of s.lists ≤ most_odts s.profile.form.id
+  pub few : All (HasFew s.profile.most_odts) s.lists
   pub forms : All (HasForm s.profile.form) s.lists
   pub modes : All (HasChannel s.profile.channels) s.lists
   pub running : All (RunsReady s.profile.segments) s.lists

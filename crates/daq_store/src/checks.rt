@@ -18,7 +18,7 @@ use crate::mode::TIMESTAMP;
 use crate::store::Store;
 use segments::Segments;
 use xcp_base::ErrCode;
-use xcp_base::limits::{MAX_CHANNELS, MAX_ENTRIES, MAX_ENTRY_SIZE, MAX_LISTS, MAX_ODTS};
+use xcp_base::limits::{MAX_CHANNELS, MAX_ENTRIES, MAX_ENTRY_SIZE, MAX_LISTS, MAX_ODTS_IN_ALL};
 
 impl Store {
     ghost use Rattle.daq_store.specs.Standing.{conf_of, first_pid_of, odts_shown, shows_running};
@@ -42,7 +42,7 @@ impl Store {
         ensures fails { IfErr result (Fails self.now (Command.AllocOdt list count)) }
         ensures stopped { OnOk result (some_runs self.now ≡ false) }
         ensures there { OnOk result (list < length self.now.lists) }
-        ensures limit { OnOk result (count ≤ MAX_ODTS) }
+        ensures limit { OnOk result (count ≤ MAX_ODTS_IN_ALL) }
         ensures total { OnOk result
             (other_odts self.now list + count ≤ most_odts self.now.profile.form.id) }
     {
@@ -129,7 +129,7 @@ impl Store {
         if self.running(list) {
             return Err(ErrCode::DaqActive);
         }
-        if is_bad_entry(&self.segments, bit, size, ext, addr) {
+        if self.is_bad_entry(bit, size, ext, addr) {
             return Err(ErrCode::OutOfRange);
         }
         Ok((list, odt, entry))
@@ -262,7 +262,7 @@ impl Store {
     pub(crate) fn odts_before(&self, list: usize) -> usize
         requires { list ≤ length self.now.lists }
         ensures value { result ≡ odts_shown self.now list }
-        ensures limit { result ≤ MAX_LISTS * MAX_ODTS }
+        ensures limit { result ≤ MAX_LISTS * MAX_ODTS_IN_ALL }
     {
         let mut odts = 0;
         for state in &self.lists[..list] {
@@ -284,7 +284,7 @@ impl Store {
     /// The number of the ODTs of all lists but one.
     fn other_odts(&self, list: u16) -> usize
         ensures value { result ≡ other_odts self.now list }
-        ensures limit { result ≤ MAX_LISTS * MAX_ODTS }
+        ensures limit { result ≤ MAX_LISTS * MAX_ODTS_IN_ALL }
     {
         let odts = self.odts_before(self.lists.len());
         match self.state(list) {
@@ -297,8 +297,9 @@ impl Store {
     fn has_too_many(&self, list: u16, count: u8) -> bool
         ensures { result ≡ shows_too_many self.now list count }
     {
+        let most = self.most_odts as usize;
         let count = count as usize;
-        count > MAX_ODTS || self.other_odts(list) + count > self.form.id.most_odts()
+        count > most || self.other_odts(list) + count > self.form.id.most_odts()
     }
 
     /// Whether there is no such list or event channel, or the prescaler is 0.
@@ -307,6 +308,17 @@ impl Store {
         ensures channel { result ≡ false → channel < MAX_CHANNELS }
     {
         !self.is_list(list) || channel >= self.channels || prescaler == 0
+    }
+
+    /// Whether an entry is a bit, has no byte or too many, or lies in no segment.
+    fn is_bad_entry(&self, bit: u8, size: u8, ext: u8, addr: u32) -> bool
+        ensures value { result ≡ is_bad_entry self.now.profile bit size ext addr }
+        ensures size { result ≡ false → (0 < size) × (size ≤ MAX_ENTRY_SIZE) }
+    {
+        bit != NO_BIT
+            || size == 0
+            || size > self.form.most_entry()
+            || is_outside(&self.segments, size, ext, addr)
     }
 
     /// Whether this is the start of a list that isn't ready.
@@ -325,14 +337,6 @@ impl Store {
             .iter()
             .any(|list| list.selected && !list.conf.ready(segments))
     }
-}
-
-/// Whether an entry is a bit, has no byte or too many, or lies in no segment.
-fn is_bad_entry(segments: &Segments, bit: u8, size: u8, ext: u8, addr: u32) -> bool
-    ensures value { result ≡ is_bad_entry segments.now bit size ext addr }
-    ensures size { result ≡ false → (0 < size) × (size ≤ MAX_ENTRY_SIZE) }
-{
-    bit != NO_BIT || size == 0 || size > MAX_ENTRY_SIZE || is_outside(segments, size, ext, addr)
 }
 
 /// Whether so many bytes from an address on lie in no segment.

@@ -18,7 +18,7 @@ use crate::mode::Mode;
 use crate::phase::Phase;
 use crate::store::Store;
 use std::alloc::AllocError;
-use xcp_base::limits::{MAX_ENTRIES, MAX_ENTRY_SIZE, MAX_LISTS, MAX_ODTS};
+use xcp_base::limits::{MAX_ENTRIES, MAX_ENTRY_SIZE, MAX_LISTS};
 
 impl Store {
     ghost use Rattle.daq_store.specs.Standing.{shows_running};
@@ -39,7 +39,7 @@ impl Store {
     /// ALLOC_ODT: puts ODTs without entries in the place of those of a list.
     pub(crate) fn put_odts(&mut self, list: u16, count: u8) -> Result<(), AllocError>
         requires there { list < length self.old.lists }
-        requires limit { count ≤ MAX_ODTS }
+        requires limit { count ≤ self.old.profile.most_odts }
         requires total { other_odts self.old list + count ≤ most_odts self.old.profile.form.id }
         requires stopped { some_runs self.old ≡ false }
         ensures ok { OnOk result (self.new ≡ odts_put self.old list count) }

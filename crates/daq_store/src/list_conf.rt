@@ -2,7 +2,7 @@
 ghost use Rattle.std.specs.Prelude.{◌≡◌, ◌+◌, ◌*◌, ◌<◌, ◌≤◌, [], None};
 ghost use Rattle.std.specs.Prelude.{IfOk, IfSome, IsSome, OnErr, OnOk};
 ghost use Rattle.std.specs.Prelude.{Some, length, map, option_map, replicate, slice_set};
-ghost use Rattle.xcp_base.specs.Forms.{field_len, stamp_bytes};
+ghost use Rattle.xcp_base.specs.Forms.{IsForm, field_len, stamp_bytes};
 ghost use Rattle.xcp_base.specs.Packets.{packet_len, stamp_len};
 ghost use Rattle.daq_store.specs.Configuration.{channel_of, prescaler_of, priority_of, is_stamped};
 ghost use Rattle.daq_store.specs.Configuration.{entries_len, entry_of, is_ready, odt_entries};
@@ -16,7 +16,7 @@ use segments::Segments;
 use std::alloc::{AllocError, Global};
 use std::marker::Model;
 use xcp_base::limits::{
-    MAX_CHANNELS, MAX_DTO, MAX_ENTRIES, MAX_ENTRY_SIZE, MAX_FIELD, MAX_ODTS, MAX_STAMP,
+    MAX_CHANNELS, MAX_ENTRIES, MAX_ENTRY_SIZE, MAX_FIELD, MAX_ODTS_IN_ALL, MAX_STAMP,
 };
 use xcp_base::{IdKind, PacketForm};
 
@@ -58,9 +58,10 @@ impl ListConf {
         self.form.stamp.bytes()
     }
 
-    /// The identification field and the timestamp's size, in one.
+    /// The identification field, the timestamp's size and MAX_DTO, in one.
     pub fn form(&self) -> PacketForm
-        ensures { result ≡ self.now.form }
+        ensures value { result ≡ self.now.form }
+        ensures limits { IsForm result }
     {
         self.form
     }
@@ -110,7 +111,7 @@ impl ListConf {
     /// The number of ODTs.
     pub fn odts(&self) -> usize
         ensures count { result ≡ length self.now.odts }
-        ensures limit { result ≤ MAX_ODTS }
+        ensures limit { result ≤ MAX_ODTS_IN_ALL }
     {
         self.odts.len()
     }
@@ -154,11 +155,12 @@ impl ListConf {
             return false;
         }
         let channel = self.channel();
+        let most = self.max_dto();
         for (k, odt) in self.odts.iter().enumerate() {
             if !odt.is_filled(channel, segments) {
                 return false;
             }
-            if self.packet_len(k) > MAX_DTO {
+            if self.packet_len(k) > most {
                 return false;
             }
         }
@@ -173,6 +175,13 @@ impl ListConf {
         ensures limit { result ≤ MAX_FIELD + MAX_STAMP + MAX_ENTRIES * MAX_ENTRY_SIZE }
     {
         self.field_len() + self.stamp_len(odt) + self.odts[odt].bytes()
+    }
+
+    /// MAX_DTO: the most bytes of a packet.
+    fn max_dto(&self) -> usize
+        ensures { result ≡ self.now.form.max_dto }
+    {
+        self.form.max_dto as usize
     }
 
     /// The bytes of the identification field.
@@ -197,6 +206,7 @@ impl ListConf {
 
     /// A list as it is when it is allocated.
     pub(crate) fn new(alloc: Global, form: PacketForm) -> ListConf
+        requires form { IsForm form }
         ensures { result ≡ fresh_conf form }
     {
         ListConf {
@@ -225,7 +235,7 @@ impl ListConf {
 
     /// Puts ODTs without entries in the place of the earlier ones.
     pub(crate) fn allocate_odts(&mut self, alloc: Global, count: usize) -> Result<(), AllocError>
-        requires { count ≤ MAX_ODTS }
+        requires { count ≤ MAX_ODTS_IN_ALL }
         ensures ok { OnOk result (self.new ≡ record self.old { odts = replicate count [] }) }
         ensures err { OnErr result (self.new ≡ self.old) }
     {

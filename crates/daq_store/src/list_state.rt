@@ -1,5 +1,6 @@
 //! A DAQ list in the store: what is set of it, and whether it runs or is selected.
 ghost use Rattle.std.specs.Prelude.{◌≡◌, IfOk, replicate};
+ghost use Rattle.xcp_base.specs.Forms.{IsForm};
 ghost use Rattle.daq_store.specs.Inner.Effects.{cleared, fresh_state, start_stopped, synched};
 
 use crate::list_conf::ListConf;
@@ -61,6 +62,7 @@ pub fn fresh_lists(
     form: PacketForm,
     count: usize,
 ) -> Result<Vec<ListState>, AllocError>
+    requires form { IsForm form }
     ensures { IfOk result (λ lists. lists.items ≡ replicate count (fresh_state form)) }
 {
     let mut lists = Vec::with_capacity(alloc, count)?;

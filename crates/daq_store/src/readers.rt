@@ -2,7 +2,7 @@
 
 ghost use Rattle.std.specs.Prelude.{◌≡◌, ◌<◌, ◌≤◌, ◌↔◌, ◌&&◌, List, true, IsTrue, IsSome};
 ghost use Rattle.std.specs.Prelude.{IfSome, is_some, length, option_copied, slice_get};
-ghost use Rattle.xcp_base.specs.Forms.{FitsFirstPid, stamp_bytes};
+ghost use Rattle.xcp_base.specs.Forms.{FitsFirstPid, most_entry, stamp_bytes};
 ghost use Rattle.segments.specs.Image.{image_len};
 ghost use Rattle.segments.specs.Segment.{AreWithin};
 ghost use Rattle.daq_store.specs.Shape.{list_count, is_list};
@@ -10,6 +10,7 @@ ghost use Rattle.daq_store.specs.Pointer.{pointer};
 ghost use Rattle.daq_store.specs.Running.{any_list, is_active, is_chosen, is_running};
 ghost use Rattle.daq_store.specs.Configuration.{channel_of, configuration, entry_of, is_ready};
 ghost use Rattle.daq_store.specs.Configuration.{list_is_ready, odt_entries};
+ghost use Rattle.daq_store.specs.Limited.{is_by_value};
 ghost use Rattle.daq_store.specs.Inner.Effects.{shows_entry};
 
 use crate::command::Command;
@@ -19,7 +20,7 @@ use crate::list_state::ListState;
 use crate::store::Store;
 use segments::{Segments, image_len};
 use xcp_base::IdKind;
-use xcp_base::limits::{MAX_CHANNELS, MAX_ENTRIES, MAX_LISTS};
+use xcp_base::limits::{MAX_CHANNELS, MAX_DTO, MAX_ENTRIES, MAX_LISTS, MAX_ODTS};
 
 impl Store {
     ghost use Rattle.daq_store.specs.Standing.{StoreStandsAfter, conf_of, first_pid_of};
@@ -61,6 +62,21 @@ impl Store {
         ensures { result ≡ stamp_bytes self.now.profile.form.stamp }
     {
         self.form.stamp.bytes()
+    }
+
+    /// Whether the samples of each list find room in a value of fixed size, as in a run: no list has
+    /// more than `MAX_ODTS` ODTs, and no packet more than `MAX_DTO` bytes.
+    pub fn is_by_value(&self) -> bool
+        ensures { result ≡ is_by_value self.now.profile }
+    {
+        self.most_odts as usize <= MAX_ODTS && self.form.max_dto as usize <= MAX_DTO
+    }
+
+    /// The most bytes of an entry.
+    pub fn most_entry(&self) -> u8
+        ensures { result ≡ most_entry self.now.profile.form }
+    {
+        self.form.most_entry()
     }
 
     /// The number of DAQ lists.
@@ -155,6 +171,8 @@ impl Store {
         ensures value { IfSome result (λ conf. conf.now ≡ conf_of self.now list) }
         ensures channel { IfSome result
             (λ conf. channel_of conf.now.mode < self.now.profile.channels) }
+        ensures few { IfSome result
+            (λ conf. length conf.now.odts ≤ self.now.profile.most_odts) }
         ensures ready_after { (calls : List Command) → StoreStandsAfter self.now calls
             → IsSome result
             ↔ ((is_list calls list && list_is_ready self.now.profile calls list) ≡ true) }

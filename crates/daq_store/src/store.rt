@@ -1,8 +1,9 @@
 //! The store, with one call for each DAQ command: it is checked, and then carried out.
 ghost use Rattle.std.specs.Prelude.{◌≡◌, ◌≢◌, ◌≤◌, ◌↔◌, [], IsOk, IfOk, IfErr, OnOk, OnErr};
 ghost use Rattle.std.specs.Prelude.{IsSome, Some};
-ghost use Rattle.xcp_base.specs.declared.limits.TheConstants.{RUN_CHANNELS, RUN_ENTRIES};
-ghost use Rattle.xcp_base.specs.Forms.{form_of, usual_form};
+ghost use Rattle.xcp_base.specs.declared.limits.TheConstants.{MAX_ODTS, RUN_CHANNELS, RUN_ENTRIES};
+ghost use Rattle.xcp_base.specs.Forms.{form_of, form_with, usual_form};
+ghost use Rattle.daq_store.specs.Limited.{AreAllowed};
 ghost use Rattle.segments.specs.Image.{image_segments};
 
 use crate::command::Command;
@@ -30,6 +31,7 @@ use xcp_base::{IdKind, PacketForm};
 pub struct Store {
     pub(crate) alloc: Global,
     pub(crate) channels: u16,
+    pub(crate) most_odts: u8,
     pub(crate) most_entries: u8,
     pub(crate) segments: Segments,
     pub(crate) form: PacketForm,
@@ -48,6 +50,7 @@ impl Model for Store {
     ghost view = { λ a. record {
       profile = record {
         channels = a.channels;
+        most_odts = a.most_odts;
         most_entries = a.most_entries;
         segments = a.segments;
         form = a.form;
@@ -60,6 +63,7 @@ impl Model for Store {
     ghost invariant = { λ a. IsStore (record {
       profile = record {
         channels = a.channels;
+        most_odts = a.most_odts;
         most_entries = a.most_entries;
         segments = a.segments;
         form = a.form;
@@ -83,6 +87,7 @@ impl Store {
             × (1 ≤ image_len) × (image_len ≤ MAX_IMAGE_LEN)) }
         ensures profile { IfOk result (λ s. s.profile ≡ record {
           channels = channels;
+          most_odts = MAX_ODTS;
           most_entries = RUN_ENTRIES;
           segments = image_segments image_len;
           form = usual_form;
@@ -103,6 +108,7 @@ impl Store {
             × (1 ≤ image_len) × (image_len ≤ MAX_IMAGE_LEN)) }
         ensures profile { IfOk result (λ s. s.profile ≡ record {
           channels = channels;
+          most_odts = MAX_ODTS;
           most_entries = RUN_ENTRIES;
           segments = image_segments image_len;
           form = record usual_form { id = id };
@@ -123,7 +129,7 @@ impl Store {
         ensures limits { IsOk result ↔ ((1 ≤ channels) × (channels ≤ RUN_CHANNELS)
             × (1 ≤ image_len) × (image_len ≤ MAX_IMAGE_LEN) × IsSome (form_of id stamp_size)) }
         ensures profile { IfOk result (λ s. (s.profile.channels ≡ channels)
-            × (s.profile.most_entries ≡ RUN_ENTRIES)
+            × (s.profile.most_odts ≡ MAX_ODTS) × (s.profile.most_entries ≡ RUN_ENTRIES)
             × (s.profile.segments ≡ image_segments image_len)) }
         ensures form { IfOk result (λ s. form_of id stamp_size ≡ Some s.profile.form) }
         ensures fresh { IfOk result (λ s. StoreStandsAfter s []) }
@@ -152,21 +158,28 @@ impl Store {
         limits: Limits,
     ) -> Result<Store, BadLimits>
         ensures limits { IsOk result ↔ ((1 ≤ channels) × (channels ≤ limits.channels)
-            × (channels ≤ MAX_CHANNELS) × IsSome (form_of id stamp_size)) }
+            × (channels ≤ MAX_CHANNELS) × AreAllowed limits
+            × IsSome (form_with id stamp_size limits.max_dto)) }
         ensures profile { IfOk result (λ s. (s.profile.channels ≡ channels)
-            × (s.profile.most_entries ≡ limits.entries) × (s.profile.segments ≡ segments)) }
-        ensures form { IfOk result (λ s. form_of id stamp_size ≡ Some s.profile.form) }
+            × (s.profile.most_odts ≡ limits.odts) × (s.profile.most_entries ≡ limits.entries)
+            × (s.profile.segments ≡ segments)) }
+        ensures form { IfOk result
+            (λ s. form_with id stamp_size limits.max_dto ≡ Some s.profile.form) }
         ensures fresh { IfOk result (λ s. StoreStandsAfter s []) }
     {
         if channels == 0 || channels > limits.channels || channels > MAX_CHANNELS {
             return Err(BadLimits);
         }
-        let Some(form) = PacketForm::of(id, stamp_size) else {
+        if !limits.are_allowed() {
+            return Err(BadLimits);
+        }
+        let Some(form) = PacketForm::with(id, stamp_size, limits.max_dto) else {
             return Err(BadLimits);
         };
         Ok(Store {
             alloc,
             channels,
+            most_odts: limits.odts,
             most_entries: limits.entries,
             segments,
             form,
@@ -206,8 +219,8 @@ impl Store {
     /// selection stay; the pointer is undefined; 0 is accepted.
     ///
     /// Refused in this order: ERR_DAQ_ACTIVE while a list runs, ERR_SEQUENCE before ALLOC_DAQ or
-    /// after ALLOC_ODT_ENTRY, ERR_OUT_OF_RANGE without such a list, ERR_MEMORY_OVERFLOW over 8 ODTs
-    /// or, with an absolute ODT number, over 124 of all lists, lack of memory.
+    /// after ALLOC_ODT_ENTRY, ERR_OUT_OF_RANGE without such a list, ERR_MEMORY_OVERFLOW over the
+    /// limit or, with an absolute ODT number, over 124 ODTs of all lists, lack of memory.
     pub fn alloc_odt(&mut self, list: u16, count: u8) -> Result<(), Refusal>
         ensures accepted { OnOk result
             (Accepts self.old self.new (Command.AllocOdt list count) Reply.Positive) }
@@ -260,7 +273,7 @@ impl Store {
     ///
     /// Refused in this order: ERR_DAQ_ACTIVE while the list at the pointer runs, ERR_SEQUENCE with
     /// an undefined pointer, ERR_OUT_OF_RANGE for a bit offset other than 0xFF, a size of 0
-    /// or over 63, or an entry that lies in no segment.
+    /// or over the limit, or an entry that lies in no segment.
     pub fn write(&mut self, bit: u8, size: u8, ext: u8, addr: u32) -> Result<(), Refusal>
         ensures accepted { OnOk result
             (Accepts self.old self.new (Command.WriteDaq bit size ext addr) Reply.Positive) }

@@ -1,7 +1,7 @@
 //! Frames of a sampler over a ring of frames, and of replies, as they go out of a page.
+use crate::by_value::sampler_by_value;
 use crate::same::same;
 use crate::stores::two_odts;
-use daq_engine::sampler_over;
 use frame_page::FramePage;
 use frame_ring::limits::MIN_ROOM;
 use frame_ring::{FrameRing, FrameTake, Front, Head};
@@ -61,7 +61,7 @@ fn frames_go(rt: &impl Abort, page: &mut FramePage<u8>, room: usize, wanted: &[u
 fn a_sample_goes_out_in_several_datagrams(rt: HostRuntime) -> Result<(), Fail> {
     let store = two_odts(rt.alloc())?;
     let (send, mut take) = FrameRing::new(rt.alloc(), 64, MIN_ROOM)?;
-    let mut sampler = sampler_over(rt.alloc(), &store, ChannelId::at(0), send)?;
+    let mut sampler = sampler_by_value(rt.alloc(), &store, ChannelId::at(0), send)?;
     let mut page = FramePage::new(rt.alloc(), 10, 3)?;
     let row = "a page of ten blocks";
     let _ = sampler.trigger(&IMAGE, 5)?;

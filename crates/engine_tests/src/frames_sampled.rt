@@ -1,11 +1,11 @@
 //! A sampler over a ring of frames.
 ghost use Rattle.std.specs.Prelude.{◌≡◌, IfOk};
 
+use crate::by_value::sampler_by_value;
 use crate::frames_through::item_comes;
 use crate::same::same;
 use crate::stores::two_odts;
 use channel_ring::SendEnd;
-use daq_engine::sampler_over;
 use frame_ring::limits::MIN_ROOM;
 use frame_ring::{FrameRing, FrameSend, FrameTake, Head};
 use sampler::Sampler;
@@ -47,7 +47,7 @@ fn sample_comes(
 fn a_sampler_sends_samples_as_frames(rt: HostRuntime) -> Result<(), Fail> {
     let store = two_odts(rt.alloc())?;
     let (send, mut take) = FrameRing::new(rt.alloc(), 64, MIN_ROOM)?;
-    let mut sampler = sampler_over(rt.alloc(), &store, ChannelId::at(0), send)?;
+    let mut sampler = sampler_by_value(rt.alloc(), &store, ChannelId::at(0), send)?;
     let row = "samples of five blocks through eight";
     // the first sample takes up five of eight blocks, so the next two are dropped
     same(

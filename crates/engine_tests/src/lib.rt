@@ -4,6 +4,8 @@
 #![tactic(auto)]
 
 #[cfg(test)]
+mod by_value;
+#[cfg(test)]
 mod filled_buffer;
 #[cfg(test)]
 mod first_path;

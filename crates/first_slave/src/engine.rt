@@ -27,6 +27,7 @@ pub fn profile(alloc: Global) -> Result<Profile, AllocError> {
         unit: 3,
         ticks: 1,
         max_cto: 64,
+        max_dto: 64,
         name: Vec::from_slice(alloc, b"engine")?,
         events: vec![in alloc; event]?,
         a2l_name: Vec::new(alloc),

@@ -1,6 +1,6 @@
 //! What waits for the transport, in blocks.
-ghost use Rattle.std.specs.Prelude.{◌≡◌, ◌-◌, ◌<◌, ◌≤◌, [], IfOk, Some, false, length, slice_get};
-ghost use Rattle.std.specs.Prelude.{true};
+ghost use Rattle.std.specs.Prelude.{◌≡◌, ◌-◌, ◌<◌, ◌≤◌, [], IfOk, OnErr, OnOk, Some, false};
+ghost use Rattle.std.specs.Prelude.{length, slice_get, take, true};
 ghost use Rattle.frame_page.specs.Laid.{Laid};
 
 use crate::unit::Unit;
@@ -40,6 +40,26 @@ impl<O> Model for FramePage<O> {
     ghost invariant = { λ p. IsPage p.blocks.items p.end p.units };
 }
 
+/// So many blocks, of which the first are copies of these.
+fn copied_in(alloc: Global, blocks: &[Block], count: usize) -> Result<Vec<Block>, AllocError>
+    requires fit { length blocks.now ≤ count }
+    ensures len { IfOk result (λ grown. length grown.items ≡ count) }
+    ensures first { IfOk result (λ grown. take (length blocks.now) grown.items ≡ blocks.now) }
+{
+    let mut grown = vec![in alloc; [0; BLOCK]; count]?;
+    copy_into(&mut grown, blocks);
+    Ok(grown)
+}
+
+/// Copies these blocks to the front of others.
+fn copy_into(grown: &mut [Block], blocks: &[Block])
+    requires fit { length blocks.now ≤ length grown.old }
+    ensures len { length grown.new ≡ length grown.old }
+    ensures first { take (length blocks.now) grown.new ≡ blocks.now }
+{
+    grown[..blocks.len()].copy_from_slice(blocks);
+}
+
 impl<O: Copy> FramePage<O> {
     /// A page of so many blocks in which nothing waits, and at most so many samples and replies
     /// find room. Its first frame has CTR 0.
@@ -59,6 +79,32 @@ impl<O: Copy> FramePage<O> {
             units: HeapCircularBuffer::with_capacity(alloc, most)?,
             counter: 0,
         })
+    }
+
+    /// Makes room for so many blocks, samples and replies in all. What waits stays as it is; if
+    /// there is no memory, nothing changes.
+    pub fn grow(&mut self, alloc: Global, blocks: usize, most: usize) -> Result<(), AllocError>
+        requires blocks { self.old.blocks ≤ blocks }
+        requires few { blocks ≤ 0xFFFFFFFF }
+        requires places { self.old.most ≤ most }
+        ensures ok { OnOk result (self.new ≡ record self.old { blocks = blocks; most = most }) }
+        ensures err { OnErr result (self.new ≡ self.old) }
+    {
+        if self.has_all(blocks, most) {
+            return Ok(());
+        }
+        let grown = copied_in(alloc, &self.blocks[..self.end], blocks)?;
+        self.units.resize(most)?;
+        self.blocks = grown;
+        Ok(())
+    }
+
+    /// Whether there is room for so many blocks, samples and replies in all.
+    fn has_all(&self, blocks: usize, most: usize) -> bool
+        ensures blocks { result ≡ true → blocks ≤ self.now.blocks }
+        ensures places { result ≡ true → most ≤ self.now.most }
+    {
+        blocks <= self.blocks.len() && most <= self.units.capacity()
     }
 
     /// The blocks that are free.

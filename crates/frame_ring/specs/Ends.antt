@@ -1,8 +1,10 @@
 -- What contracts see of the two ends of a ring of frames.
-use Rattle.std.specs.Prelude.{◌≡◌, ℕ, ◌+◌, ◌<◌, ◌≤◌, List, [], ◌∷◌, ◌++◌, length}
+use Rattle.std.specs.Prelude.{◌≡◌, ℕ, ◌+◌, ◌-◌, ◌*◌, ◌<◌, ◌≤◌, List, [], ◌∷◌, ◌++◌, length}
 use mathlib.Core.List.{IsPrefix}
 use Rattle.xcp_base.specs.declared.item.Item.{Item}
+use Rattle.xcp_base.specs.declared.limits.TheConstants.{MAX_ODTS_IN_ALL, MAX_PACKET}
 use Rattle.channel_ring.specs.Ends.{RingName}
+use Rattle.channel_ring.specs.Making.{SampleLimit}
 use Rattle.frame_ring.specs.Heads.{IsHeadOf, head_of, item_head}
 use Rattle.frame_ring.specs.Records.{IsItem, cost, record_of}
 use Rattle.frame_ring.specs.declared.head.Head.{Head}
@@ -30,6 +32,14 @@ pub record TakeState : Type 0 where
 pub record EndedState : Type 0 where
   pub sent : List Item
   pub ring : RingName
+
+-- the samples whose records have at most so many blocks, two of which are the head
+abbrev pub limit_of : ℕ → SampleLimit
+limit_of room = record {
+  count = MAX_ODTS_IN_ALL;
+  packet = MAX_PACKET;
+  frames = 8 * (room - 2);
+}
 
 -- a new ring of so many blocks, with room for a record of so many
 pub record AreEnds (capacity room : ℕ) (s : SendState) (t : TakeState) : Type 0 where

@@ -5,8 +5,6 @@ use Rattle.std.specs.Simd.{first_chunks}
 use Rattle.rtrb.specs.Fifo.{Allowed}
 use Rattle.rtrb.specs.Ring.{SameConsumer, known_items, received}
 use Rattle.rtrb.specs.declared.consumer.Consumer.{Consumer}
-use Rattle.xcp_base.specs.declared.limits.TheConstants.{MAX_ODTS_IN_ALL, MAX_PACKET}
-use Rattle.channel_ring.specs.Making.{SampleLimit}
 use Rattle.channel_ring.specs.Room.{units}
 use Rattle.frame_ring.specs.Fronts.{AreRecords, BeginRecords}
 use Rattle.frame_ring.specs.Reading.{items_in}
@@ -35,14 +33,6 @@ front_block (b ∷ bs) = b
 -- so many items are read off these blocks, as 64 bits count them
 abbrev pub counts : ℕ → List (List ℕ) → Type 0
 counts n blocks = n ≡ length (items_in blocks) % 2 ^ 64
-
--- the samples whose records have at most so many blocks, two of which are the head
-abbrev pub limit_of : ℕ → SampleLimit
-limit_of room = record {
-  count = MAX_ODTS_IN_ALL;
-  packet = MAX_PACKET;
-  frames = 8 * (room - 2);
-}
 
 -- the first n blocks that are known were popped, and read by nobody
 pub record PopsFront {A P : Type 0} (n : ℕ) (a b : Consumer (List ℕ) A P) : Type 0 where

@@ -1,11 +1,14 @@
 -- A run that a text is keeps all limits.
-use Rattle.std.proofs.Common.{◌≡◌, ◌≤◌, ◌==◌, ◌&&◌, nat_le, ℕ, ℤ, pos, negsuc, List, [], ◌∷◌, length, All, Option, Some, codes, sym, ap, ◌∙◌, subst, arith}
+use Rattle.std.proofs.Common.{◌≡◌, ◌≤◌, ◌==◌, ◌&&◌, nat_le, ℕ, ℤ, pos, negsuc, List, [], ◌∷◌, length, All, Option, Some, None, codes, sym, ap, ◌∙◌, subst, arith}
 use Rattle.std.proofs.lemmas.Bool.{and_parts, leb-true, eqb-true}
 use Rattle.std.proofs.lemmas.List.Elements.{All-cons, All-nil, All-same}
 use Rattle.toml.specs.Data.{Data, Items, no_items, item, Members, as_array, as_integer, as_str, get_member}
-use Rattle.xcp_base.specs.declared.limits.TheConstants.{RUN_CHANNELS, MAX_IMAGE_LEN}
+use Rattle.xcp_base.specs.declared.limits.TheConstants.{RUN_CHANNELS, MAX_DTO, MAX_IMAGE_LEN}
 use Rattle.run_file.specs.declared.limits.TheConstants.{MAX_COMMAND_LEN, MAX_PACKETS, MAX_STEPS}
-use Rattle.run_file.specs.Keys.{all_of, at_key, bounded, cap_in, caps_in, caps_of, if_length, number_in, texts_at, texts_in}
+use Rattle.run_file.specs.Keys.{all_of, at_key, bounded, cap_in, caps_in, caps_of, form_with, id_of, if_length, number_in, stamp_of, texts_at, texts_in}
+use Rattle.xcp_base.specs.declared.id_kind.IdKind.{IdKind}
+use Rattle.xcp_base.specs.declared.packet_form.PacketForm.{PacketForm}
+use Rattle.xcp_base.specs.declared.stamp_size.StampSize.{StampSize}
 use Rattle.xcp_base.specs.Rings.{least_cap, most_cap}
 use Rattle.xcp_base.specs.declared.ring_kind.RingKind.{RingKind}
 use Rattle.run_file.specs.Limits.{HasLimits, IsCap, IsStepWithin}
@@ -67,6 +70,13 @@ texts_within most key texts ms h =
     let low : length read.0 ≤ most = leb-true (length read.0) most long.0 in
     subst (λ ts. length ts ≤ most) long.1 low
 
+-- packets have MAX_DTO of a run
+form_within : (id : Option IdKind) (stamp : Option StampSize) (form : PacketForm) → form_with id stamp ≡ Some form → form.max_dto ≡ MAX_DTO
+form_within (Some id) (Some stamp) form h =
+    let is : record { id = id; stamp = stamp; max_dto = MAX_DTO } ≡ form = cc in ap (λ (f : PacketForm). f.max_dto) (sym is)
+form_within (Some id) None form h = cc h
+form_within None stamp form h = cc h
+
 step_within : (channels : ℕ) (text : List ℕ) (step : StepData) → IsStepText channels text step → IsStepWithin channels step
 step_within channels text (trigger c s image) is = (is.below, is.fits, is.image_word.some)
 step_within channels text (start c l) is = (is.below, is.fits)
@@ -87,6 +97,7 @@ run_limits text run is =
       channels = omega (arith, channels.1, is.channels_is);
       some_byte = omega (arith, image_len.0, is.image_len_is);
       image_len = omega (arith, image_len.1, is.image_len_is);
+      form = ap (λ (f : PacketForm). f.max_dto) is.form_is ∙ form_within (id_of ms) (stamp_of ms) is.values.form keys.form_is;
       one_cap_each = ap length is.caps_are ∙ caps.0 ∙ sym is.channels_is;
       caps = subst (λ kind. All (IsCap kind) run.caps) (sym is.ring_is) (All-same (IsCap is.values.ring) run.caps is.values.caps is.caps_are caps.1);
       packets = omega (arith, setup, length-AreTextsOf IsPacketText is.values.setup run.setup is.setup_is);

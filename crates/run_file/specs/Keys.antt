@@ -12,7 +12,8 @@ use Rattle.xcp_base.specs.declared.stamp_size.StampSize.TheVariants.{Four}
 use Rattle.xcp_base.specs.declared.packet_form.PacketForm.{PacketForm}
 use Rattle.xcp_base.specs.Forms.{size_of}
 use Rattle.xcp_base.specs.Rings.{least_cap, most_cap}
-use Rattle.xcp_base.specs.declared.limits.TheConstants.{RUN_CHANNELS, MAX_IMAGE_LEN, MAX_STAMP}
+use Rattle.xcp_base.specs.declared.limits.TheConstants.{MAX_DTO, MAX_IMAGE_LEN, MAX_STAMP}
+use Rattle.xcp_base.specs.declared.limits.TheConstants.{RUN_CHANNELS}
 use Rattle.run_file.specs.declared.limits.TheConstants.{MAX_PACKETS, MAX_STEPS}
 use Rattle.xcp_base.specs.declared.ring_kind.RingKind.{RingKind}
 use Rattle.xcp_base.specs.declared.ring_kind.RingKind.TheVariants.{Bytes, Samples}
@@ -111,7 +112,8 @@ stamp_value (Some d) = stamp_in d
 
 -- the form of the packets by both
 abbrev pub form_with : Option IdKind → Option StampSize → Option PacketForm
-form_with (Some id) (Some stamp) = Some (record { id = id; stamp = stamp })
+form_with (Some id) (Some stamp) =
+    Some (record { id = id; stamp = stamp; max_dto = MAX_DTO })
 form_with _ _ = None
 
 -- the value of `drain`: true where the key is absent

@@ -1,6 +1,6 @@
 -- The limits that every run keeps.
 use Rattle.std.specs.Prelude.{◌≡◌, ◌<◌, ◌≤◌, ◌^◌, ℕ, All, length, ⊤}
-use Rattle.xcp_base.specs.declared.limits.TheConstants.{RUN_CHANNELS, MAX_IMAGE_LEN}
+use Rattle.xcp_base.specs.declared.limits.TheConstants.{MAX_DTO, MAX_IMAGE_LEN, RUN_CHANNELS}
 use Rattle.run_file.specs.declared.limits.TheConstants.{MAX_COMMAND_LEN, MAX_PACKETS, MAX_STEPS}
 use Rattle.xcp_base.specs.declared.ring_kind.RingKind.{RingKind}
 use Rattle.xcp_base.specs.Rings.{least_cap, most_cap}
@@ -25,6 +25,7 @@ pub record HasLimits (run : RunData) : Type 0 where
   pub channels : run.channels ≤ RUN_CHANNELS
   pub some_byte : 1 ≤ run.image_len
   pub image_len : run.image_len ≤ MAX_IMAGE_LEN
+  pub form : run.form.max_dto ≡ MAX_DTO
   pub one_cap_each : length run.caps ≡ run.channels
   pub caps : All (IsCap run.ring) run.caps
   pub packets : length run.setup ≤ MAX_PACKETS

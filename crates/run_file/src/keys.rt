@@ -11,7 +11,7 @@ ghost use Rattle.run_file.specs.Inner.{text_in};
 
 use std::alloc::{AllocError, Global};
 use toml::{Table, Value};
-use xcp_base::limits::MAX_STAMP;
+use xcp_base::limits::{MAX_DTO, MAX_STAMP};
 use xcp_base::{IdKind, PacketForm, RingKind, StampSize};
 
 /// Whether each key of a table is one of a run file.
@@ -204,7 +204,11 @@ pub fn form_of(table: &Table) -> Option<PacketForm>
     let Some(stamp) = stamp_of(table) else {
         return None;
     };
-    Some(PacketForm { id, stamp })
+    Some(PacketForm {
+        id,
+        stamp,
+        max_dto: MAX_DTO as u16,
+    })
 }
 
 /// The identification field that `id` names; an absolute ODT number if the key is absent.

@@ -21,6 +21,8 @@ use Rattle.sampler.specs.Past.{first_past}
 use Rattle.sampler.specs.Decisions.{overload_pending}
 use Rattle.sampler.specs.Items.{items}
 use Rattle.sampler.specs.Tracks.{track_of, next_after, until_due, counts_of}
+use Rattle.channel_ring.specs.Making.{SampleLimit}
+use Rattle.sampler.specs.Limits.{AllKeepTo}
 use Rattle.sampler.specs.Inner.Fits.{first_track}
 use Rattle.sampler.specs.State.{ArePlansOf, RiseFrom, place_of, track_runs}
 use Rattle.sampler.specs.Inner.Fits.{TracksFit, NoneDueBefore, IsSampler, list_runs}
@@ -133,11 +135,12 @@ first-fit channel segments running (plan ∷ plans) (t ∷ tracks) a is =
     let rest : take (length plans) tracks ≡ map (λ (plan : ListPlan). first_track running plan.list) plans = cc in
     (rw first (omega arith, refl), first-fit channel segments running plans tracks a.1 rest)
 
-pub first-sampler : (channel len running : ℕ) (segments : List Segment) (plans : List ListPlan) (tracks : List Track) (soonest : ℕ) → len ≡ image_len segments → ArePlansOf channel segments plans → RiseFrom 0 plans → length tracks ≡ 16 → take (length plans) tracks ≡ map (λ (plan : ListPlan). first_track running plan.list) plans → NoneDueBefore soonest (take (length plans) tracks) → IsSampler channel len segments plans tracks 0 soonest 0
-first-sampler channel len running segments plans tracks soonest long a r places is none = record {
+pub first-sampler : (channel len running : ℕ) (segments : List Segment) (plans : List ListPlan) (tracks : List Track) (soonest : ℕ) (most : SampleLimit) → len ≡ image_len segments → ArePlansOf channel segments plans → RiseFrom 0 plans → AllKeepTo most plans → length tracks ≡ 16 → take (length plans) tracks ≡ map (λ (plan : ListPlan). first_track running plan.list) plans → NoneDueBefore soonest (take (length plans) tracks) → IsSampler channel len segments plans tracks 0 soonest 0 most
+first-sampler channel len running segments plans tracks soonest most long a r keep places is none = record {
   long = long;
   plans_of = a;
   rising = r;
+  keep = keep;
   room = omega (arith, rise-length channel segments 0 plans r a (omega arith));
   places = places;
   tracks_fit = first-fit channel segments running plans tracks a is;

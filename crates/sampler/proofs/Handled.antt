@@ -10,6 +10,8 @@ use Rattle.segments.specs.declared.segment.Segment.{Segment}
 use Rattle.copy_plan.specs.Config.{ListPlan}
 use Rattle.std.proofs.lemmas.Nat.Bits.{bit_at-zero}
 use Rattle.sampler.specs.State.{ArePlansOf}
+use Rattle.channel_ring.specs.Making.{SampleLimit}
+use Rattle.sampler.specs.Limits.{AllKeepTo}
 use Rattle.sampler.specs.Inner.Fits.{TracksFit, NoneDueBefore, IsSampler}
 use Rattle.sampler.specs.Inner.Moments.{MomentParts}
 use Rattle.sampler.specs.Inner.AtTrigger.{Row, AreDue, due_now, triggered, row_after, row_due, row_accepted, row_dropped, item_of, row_items, row_of, row_count, rows_items, rows_count, Adds, Stage, first_stage, HandlesLists}
@@ -230,11 +232,12 @@ rows-fit channel segments n (r ∷ rows) (plan ∷ plans) (t ∷ before) rest of
     let ts : map (λ (y : Row). y.track) rows ≡ take (length plans) before = cc in
     (rw (p, x) (triggered-fits n plan t r.due r.accepted f.0), rows-fit channel segments n rows plans before rest ps ts a.1 f.1)
 
-pub IsSampler-handled : {S E : Type 0} (send : SendGhosts S E) (ring : EndGhosts E) (m : MomentParts) (image_len : ℕ) (segments : List Segment) (plans : List ListPlan) (first last : Stage S) (triggers soonest later : ℕ) → IsSampler m.channel image_len segments plans first.tracks triggers soonest first.next → HandlesLists send ring m plans first last → last.next ≤ first.next + length plans → length last.tracks ≡ length first.tracks → triggers < 2 ^ 59 → NoneDueBefore later (take (length plans) last.tracks) → IsSampler m.channel image_len segments plans last.tracks (triggers + 1) later last.next
-IsSampler-handled send ring m image_len segments plans first last triggers soonest later s t limit same below none = record {
+pub IsSampler-handled : {S E : Type 0} (send : SendGhosts S E) (ring : EndGhosts E) (m : MomentParts) (image_len : ℕ) (segments : List Segment) (plans : List ListPlan) (first last : Stage S) (triggers soonest later : ℕ) (most after : SampleLimit) → IsSampler m.channel image_len segments plans first.tracks triggers soonest first.next most → after ≡ most → HandlesLists send ring m plans first last → last.next ≤ first.next + length plans → length last.tracks ≡ length first.tracks → triggers < 2 ^ 59 → NoneDueBefore later (take (length plans) last.tracks) → IsSampler m.channel image_len segments plans last.tracks (triggers + 1) later last.next after
+IsSampler-handled send ring m image_len segments plans first last triggers soonest later most after s stays t limit same below none = record {
   long = s.long;
   plans_of = s.plans_of;
   rising = s.rising;
+  keep = subst (λ k. AllKeepTo k plans) (sym stays) s.keep;
   room = s.room;
   places = same ∙ s.places;
   tracks_fit = rw t.keeps (rows-fit m.channel segments triggers t.rows plans first.tracks (drop (length plans) first.tracks) t.of_plans t.kept s.plans_of s.tracks_fit);

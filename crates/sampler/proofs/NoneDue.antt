@@ -7,6 +7,7 @@ use Rattle.segments.specs.declared.segment.Segment.{Segment}
 use Rattle.copy_plan.specs.Config.{ListPlan}
 use Rattle.sampler.specs.declared.counts.ListCounts.{ListCounts}
 use Rattle.sampler.specs.declared.track.Track.{Track}
+use Rattle.channel_ring.specs.Making.{SampleLimit}
 use Rattle.sampler.specs.Inner.Fits.{NoneDueBefore, IsSampler}
 use Rattle.sampler.specs.Inner.Moments.{MomentParts}
 use Rattle.sampler.specs.Inner.AtTrigger.{Row, AreDue, any_row, row_of, row_after, row_due, row_accepted, row_dropped, triggered, row_items, rows_items, rows_count, first_stage, HandlesLists}
@@ -101,11 +102,12 @@ handles-none_due send ring m plans end tracks number soonest fits before none = 
 }
 
 -- and the sampler keeps to its limits
-pub IsSampler-none_due : (channel image_len : ℕ) (segments : List Segment) (plans : List ListPlan) (tracks : List Track) (triggers soonest accepted : ℕ) → IsSampler channel image_len segments plans tracks triggers soonest accepted → triggers < 2 ^ 59 → IsSampler channel image_len segments plans tracks (triggers + 1) soonest accepted
-IsSampler-none_due channel image_len segments plans tracks triggers soonest accepted s below = record {
+pub IsSampler-none_due : (channel image_len : ℕ) (segments : List Segment) (plans : List ListPlan) (tracks : List Track) (triggers soonest accepted : ℕ) (most : SampleLimit) → IsSampler channel image_len segments plans tracks triggers soonest accepted most → triggers < 2 ^ 59 → IsSampler channel image_len segments plans tracks (triggers + 1) soonest accepted most
+IsSampler-none_due channel image_len segments plans tracks triggers soonest accepted most s below = record {
   long = s.long;
   plans_of = s.plans_of;
   rising = s.rising;
+  keep = s.keep;
   room = s.room;
   places = s.places;
   tracks_fit = TracksFit-mono triggers (triggers + 1) plans tracks (omega arith) s.tracks_fit;

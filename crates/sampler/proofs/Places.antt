@@ -1,5 +1,5 @@
 -- The place of a list among plans whose numbers rise.
-use Rattle.std.proofs.Common.{◌≡◌, ℕ, zero, suc, ◌+◌, ◌<◌, ◌≤◌, true, false, List, [], ◌∷◌, length, get_or, set, take, map, refl, ap, ◌∙◌, arith, nat_eq, length-take}
+use Rattle.std.proofs.Common.{◌≡◌, ℕ, zero, suc, ◌+◌, ◌<◌, ◌≤◌, true, false, List, [], ◌∷◌, length, get_or, set, take, map, refl, ap, ◌∙◌, sym, subst, arith, nat_eq, length-take}
 use Rattle.std.specs.Prelude.{Some, slice_get}
 use Rattle.std.specs.Option.{option_and_then}
 use Rattle.std.proofs.lemmas.List.{get_or-take}
@@ -10,6 +10,8 @@ use Rattle.xcp_base.specs.Forms.{usual_form}
 use Rattle.segments.specs.declared.segment.Segment.{Segment}
 use Rattle.copy_plan.specs.Config.{ListPlan}
 use Rattle.sampler.specs.State.{RiseFrom, ArePlansOf, place_of}
+use Rattle.channel_ring.specs.Making.{SampleLimit}
+use Rattle.sampler.specs.Limits.{AllKeepTo}
 use Rattle.sampler.specs.Inner.Fits.{TracksFit, NoneDueBefore, IsSampler}
 use Rattle.std.proofs.Math.ListN.{length-set}
 use Rattle.sampler.specs.declared.track.Track.{Track}
@@ -94,11 +96,12 @@ TracksFit-set triggers (plan ∷ plans) [] i t f c = absurd f
 TracksFit-set triggers (plan ∷ plans) (x ∷ tracks) zero t f c = ((rw c f.0.0, rw c f.0.1), f.1)
 TracksFit-set triggers (plan ∷ plans) (x ∷ tracks) (suc i) t f c = (f.0, TracksFit-set triggers plans tracks i t f.1 c)
 
-pub IsSampler-set : (channel image_len : ℕ) (segments : List Segment) (plans : List ListPlan) (tracks : List Track) (triggers soonest accepted i : ℕ) (t : Track) (sooner : ℕ) → IsSampler channel image_len segments plans tracks triggers soonest accepted → t.counts ≡ (get_or tracks i no_track).counts → NoneDueBefore sooner (take (length plans) (set tracks i t)) → IsSampler channel image_len segments plans (set tracks i t) triggers sooner accepted
-IsSampler-set channel image_len segments plans tracks triggers soonest accepted i t sooner s c none = record {
+pub IsSampler-set : (channel image_len : ℕ) (segments : List Segment) (plans : List ListPlan) (tracks : List Track) (triggers soonest accepted i : ℕ) (t : Track) (sooner : ℕ) (most after : SampleLimit) → IsSampler channel image_len segments plans tracks triggers soonest accepted most → after ≡ most → t.counts ≡ (get_or tracks i no_track).counts → NoneDueBefore sooner (take (length plans) (set tracks i t)) → IsSampler channel image_len segments plans (set tracks i t) triggers sooner accepted after
+IsSampler-set channel image_len segments plans tracks triggers soonest accepted i t sooner most after s stays c none = record {
   long = s.long;
   plans_of = s.plans_of;
   rising = s.rising;
+  keep = subst (λ m. AllKeepTo m plans) (sym stays) s.keep;
   room = s.room;
   places = length-set tracks i t ∙ s.places;
   tracks_fit = TracksFit-set triggers plans tracks i t s.tracks_fit c;

@@ -8,10 +8,12 @@ use Rattle.xcp_base.specs.declared.id_kind.IdKind.{IdKind}
 use Rattle.xcp_base.specs.declared.id_kind.IdKind.TheVariants.{Absolute, RelativeByte, RelativeWord}
 use Rattle.xcp_base.specs.Forms.{field_len}
 use Rattle.segments.specs.Image.{image_len}
-use Rattle.channel_ring.specs.Making.{ArePackets, FitsSample, IsPacket, IsShort, IsUpTo, SampleLimit, by_value}
-use Rattle.copy_plan.specs.Config.{IsPlan, ListPlan}
+use Rattle.channel_ring.specs.Making.{ArePackets, FitsSample, IsPacket, IsShort, SampleLimit, by_value}
+use Rattle.copy_plan.specs.Config.{IsByValue, IsPlan, ListPlan}
 use Rattle.copy_plan.specs.Packet.{packet, packets}
+use Rattle.copy_plan.proofs.FrameLemmas.{frames_long}
 use Rattle.copy_plan.proofs.PacketLemmas.{packet_has_len}
+use Rattle.sampler.specs.Limits.{KeepsTo}
 use Rattle.frame_writer.specs.Frame.{unnumbered}
 
 field_some : (id : IdKind) → 1 ≤ field_len id
@@ -39,31 +41,31 @@ are_packets plan image stamp marked is fits =
       few = omega (arith, many, is.limit);
       each = each_packet IsPacket plan image stamp marked (λ k here.
           let len = packet_has_len plan image stamp k marked fits is here in
-          record { some = omega (arith, len, field_some plan.form.id); fits = omega (arith, len, is.short k here) });
+          record { some = omega (arith, len, field_some plan.form.id); fits = omega (arith, len, is.short k here, is.form) });
     }
 
--- frames of short packets
-frames_short : (qs : List (List ℕ)) → All (IsShort 64) qs → length (unnumbered qs) ≤ 68 * length qs
-frames_short [] h = omega arith
-frames_short (q ∷ qs) h =
-    omega (arith, All-head (IsShort 64) q qs h, frames_short qs (All-tail (IsShort 64) q qs h), length-append q (unnumbered qs))
-
-pub fits_by_value : (plan : ListPlan) (image : List ℕ) (stamp : ℕ) (marked : Bool) → IsPlan plan → length image ≡ image_len plan.segments → FitsSample by_value (packets plan image stamp marked)
-fits_by_value plan image stamp marked is fits =
+-- they keep to what the plan keeps to
+pub fits_limit : (limit : SampleLimit) (plan : ListPlan) (image : List ℕ) (stamp : ℕ) (marked : Bool) → IsPlan plan → KeepsTo limit plan → length image ≡ image_len plan.segments → FitsSample limit (packets plan image stamp marked)
+fits_limit limit plan image stamp marked is keeps fits =
     let many = how_many plan image stamp marked in
-    let short : All (IsShort 64) (packets plan image stamp marked) =
-    each_packet (IsShort 64) plan image stamp marked (λ k here. omega (arith, packet_has_len plan image stamp k marked fits is here, is.short k here)) in
     record {
-      few = omega (arith, many, is.limit);
-      short = short;
-      frames = omega (arith, many, is.limit, frames_short (packets plan image stamp marked) short);
+      few = omega (arith, many, keeps.few);
+      short = each_packet (IsShort limit.packet) plan image stamp marked (λ k here. omega (arith, packet_has_len plan image stamp k marked fits is here, keeps.short k here));
+      frames = omega (arith, keeps.frames, frames_long plan image stamp marked fits is);
     }
 
--- an end that takes such samples takes this one
-pub fits_up_to : (a b : SampleLimit) (qs : List (List ℕ)) → IsUpTo a b → FitsSample a qs → FitsSample b qs
-fits_up_to a b qs up fits =
+-- the packet of an ODT is as short as all are
+short_at : (most : ℕ) (plan : ListPlan) (image : List ℕ) (stamp : ℕ) (marked : Bool) → All (IsShort most) (packets plan image stamp marked) → (k : ℕ) → k < length plan.odts → length (packet plan image stamp marked k) ≤ most
+unfolding packets
+short_at most plan image stamp marked all k here =
+    subst (λ q. length q ≤ most) (get_or-map-range_with_len (packet plan image stamp marked) 0 (length plan.odts) k k [] here (omega arith))
+    (all k [] (omega (arith, here, length-map-range_with_len (packet plan image stamp marked) 0 (length plan.odts))))
+
+-- of a plan whose samples find room in a value of fixed size
+pub by_value_plan : (plan : ListPlan) (image : List ℕ) (stamp : ℕ) (marked : Bool) → IsPlan plan → length image ≡ image_len plan.segments → FitsSample by_value (packets plan image stamp marked) → IsByValue plan
+by_value_plan plan image stamp marked is fits all =
+    let many = how_many plan image stamp marked in
     record {
-      few = omega (arith, up.count, fits.few);
-      short = λ k d h. omega (arith, up.packet, fits.short k d h);
-      frames = omega (arith, up.frames, fits.frames);
+      few = omega (arith, many, all.few);
+      short = λ k here. omega (arith, packet_has_len plan image stamp k marked fits is here, short_at 64 plan image stamp marked all.short k here);
     }

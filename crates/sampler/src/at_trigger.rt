@@ -2,6 +2,7 @@
 ghost use Rattle.std.specs.Prelude.{◌≡◌, ◌+◌, ◌^◌, ◌<◌, ◌≤◌, true, false, ◌++◌, length};
 ghost use Rattle.xcp_base.specs.declared.limits.TheConstants.{MAX_TRIGGERS};
 ghost use Rattle.channel_ring.specs.Room.{units};
+ghost use Rattle.sampler.specs.Limits.{AllKeepTo, KeepsTo};
 ghost use Rattle.sampler.specs.State.{ArePlansOf};
 ghost use Rattle.sampler.specs.Inner.AtTrigger.{HandlesLists, first_stage};
 ghost use Rattle.sampler.specs.Inner.AtTrigger.{item_of, row_items, row_of};
@@ -27,6 +28,7 @@ fn sample_list<S: SendEnd>(
 ) -> bool
     requires channel { plan.now.channel ≡ moment.now.channel }
     requires segments { plan.now.segments ≡ moment.now.segments }
+    requires keeps { KeepsTo (S.limit end.old) plan.now }
     ensures due { result ≡ true → due ≡ true }
     ensures sent { S.sent end.new
         ≡ S.sent end.old ++ row_items moment.now number (row_of plan.now track due result) }
@@ -35,6 +37,7 @@ fn sample_list<S: SendEnd>(
     ensures over_free { due ≡ true → result ≡ false
         → S.free end.old < S.End.cost (item_of moment.now plan.now number track.pending) }
     ensures capacity_stays { S.capacity end.new ≡ S.capacity end.old }
+    ensures limit_stays { S.limit end.new ≡ S.limit end.old }
     ensures ring_stays { S.ring end.new ≡ S.ring end.old }
 {
     if !due {
@@ -55,6 +58,7 @@ pub fn sample_lists<S: SendEnd>(
     tracks: &mut [Track],
 ) -> (Taken, u64)
     requires plans_of { ArePlansOf moment.now.channel moment.now.segments plans.now }
+    requires keep { AllKeepTo (S.limit end.old) plans.now }
     requires room { length plans.now ≤ length tracks.old }
     requires fit { TracksFit MAX_TRIGGERS plans.now tracks.old }
     requires trigger { moment.now.trigger ≤ MAX_TRIGGERS }
@@ -64,6 +68,7 @@ pub fn sample_lists<S: SendEnd>(
         (record { end = end.new; tracks = tracks.new; taken = result.0; next = result.1 }) }
     ensures next { result.1 ≤ number + length plans.now }
     ensures capacity_stays { S.capacity end.new ≡ S.capacity end.old }
+    ensures limit_stays { S.limit end.new ≡ S.limit end.old }
     ensures ring_stays { S.ring end.new ≡ S.ring end.old }
 {
     let mut taken = NONE_TAKEN;

@@ -1,9 +1,10 @@
 //! The sample of a DAQ list that is due, made where the ring wants it.
 ghost use Rattle.std.specs.Prelude.{◌≡◌};
-ghost use Rattle.channel_ring.specs.Making.{ArePackets, FitsSample, by_value};
+ghost use Rattle.channel_ring.specs.Making.{ArePackets, FitsSample, SampleLimit};
 ghost use Rattle.copy_plan.specs.Memory.{FitsMemory, image_in};
 ghost use Rattle.copy_plan.specs.Packet.{packets};
 ghost use Rattle.sampler.specs.Inner.Moments.{FitsMemory-prop};
+ghost use Rattle.sampler.specs.Limits.{KeepsTo};
 
 use channel_ring::SampleMaker;
 use copy_plan::CopyPlan;
@@ -27,7 +28,8 @@ impl<'a> DueSample<'a> {
         requires fits { FitsMemory plan.now.channel plan.now.segments memory }
         ensures packets { ⟦<DueSample<'a> as SampleMaker>⟧.packets result ≡ packets plan.now
             (image_in plan.now.channel plan.now.segments memory.entry) stamp marked }
-        ensures by_value { FitsSample by_value (⟦<DueSample<'a> as SampleMaker>⟧.packets result) }
+        ensures keeps { (limit : SampleLimit) → KeepsTo limit plan.now
+            → FitsSample limit (⟦<DueSample<'a> as SampleMaker>⟧.packets result) }
     {
         // for the proof: what a plan keeps to
         let _ = plan.odts();
@@ -53,6 +55,8 @@ impl<'a> SampleMaker for DueSample<'a> {
     }
 
     fn fill(&self, sample: &mut Packets) {
+        // for the proof: what a plan keeps to
+        let _ = self.plan.odts();
         self.plan
             .fill_into(sample, self.memory, self.stamp, self.marked);
     }

@@ -1,6 +1,7 @@
 //! A due list's sample is offered to the ring, which has it made where it wants it.
 ghost use Rattle.std.specs.Prelude.{◌≡◌, ◌+◌, ◌<◌, ◌≤◌, true, false, [], ◌∷◌, ◌++◌, length};
 ghost use Rattle.sampler.specs.Inner.AtTrigger.{item_of};
+ghost use Rattle.sampler.specs.Limits.{KeepsTo};
 
 use crate::due_sample::DueSample;
 use crate::moment::Moment;
@@ -19,6 +20,7 @@ pub fn offer_sample<S: SendEnd>(
 ) -> bool
     requires channel { plan.now.channel ≡ moment.now.channel }
     requires segments { plan.now.segments ≡ moment.now.segments }
+    requires keeps { KeepsTo (S.limit end.old) plan.now }
     ensures accepted { result ≡ true
         → S.sent end.new ≡ S.sent end.old ++ item_of moment.now plan.now number marked ∷ [] }
     ensures spent { result ≡ true
@@ -30,6 +32,7 @@ pub fn offer_sample<S: SendEnd>(
     ensures free_stays { result ≡ false → S.free end.old ≤ S.free end.new }
 
     ensures capacity_stays { S.capacity end.new ≡ S.capacity end.old }
+    ensures limit_stays { S.limit end.new ≡ S.limit end.old }
     ensures ring_stays { S.ring end.new ≡ S.ring end.old }
 {
     let list = ListId::at(plan.list() as u16);

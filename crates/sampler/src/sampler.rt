@@ -14,6 +14,7 @@ ghost use Rattle.copy_plan.specs.Memory.{FitsMemory, image_in};
 ghost use Rattle.xcp_base.specs.Lists.{has_list};
 ghost use Rattle.sampler.specs.History.{Start, Stop, is_list_of, runs_after};
 ghost use Rattle.sampler.specs.Items.{marker_of};
+ghost use Rattle.sampler.specs.Limits.{AllKeepTo};
 ghost use Rattle.sampler.specs.Past.{Past, first_past};
 ghost use Rattle.sampler.specs.Refusals.{AnswersStop, memory_refusal, running_at};
 ghost use Rattle.sampler.specs.Refusals.{start_refusal, stop_refusal, trigger_refusal};
@@ -78,14 +79,15 @@ impl<S: SendEnd> Model for Sampler<S> {
 
     ghost invariant = { λ s.
         IsSampler s.channel s.image_len s.segments.items s.lists.plans.items s.lists.tracks
-        s.triggers s.soonest s.accepted };
+        s.triggers s.soonest s.accepted (S.limit s.end) };
 }
 
 impl<S: SendEnd> Sampler<S> {
     /// A sampler of an event channel for images of `image_len` bytes.
     ///
     /// `plans` are those of the channel's DAQ lists, in rising list number; `running` is the set of
-    /// the lists that run; `end` is a send end through which nothing was sent.
+    /// the lists that run; `end` is a send end through which nothing was sent, and which takes their
+    /// samples.
     pub fn new(
         channel: u8,
         plans: Vec<CopyPlan>,
@@ -96,6 +98,7 @@ impl<S: SendEnd> Sampler<S> {
         requires channel_below { channel < MAX_CHANNELS }
         requires plans_of { ArePlansOf channel (image_segments image_len) plans.items }
         requires rising { RiseFrom 0 plans.items }
+        requires keep { AllKeepTo (S.limit end) plans.items }
         requires running { (l : ℕ) → has_list running l ≡ true
             → list_any (λ (plan : ListPlan). nat_eq plan.list l) plans.items ≡ true }
         requires nothing_sent { S.sent end ≡ [] }
@@ -120,6 +123,7 @@ impl<S: SendEnd> Sampler<S> {
         requires channel_below { channel < MAX_CHANNELS }
         requires plans_of { ArePlansOf channel segments.now plans.items }
         requires rising { RiseFrom 0 plans.items }
+        requires keep { AllKeepTo (S.limit end) plans.items }
         requires running { (l : ℕ) → has_list running l ≡ true
             → list_any (λ (plan : ListPlan). nat_eq plan.list l) plans.items ≡ true }
         requires nothing_sent { S.sent end ≡ [] }
@@ -143,6 +147,7 @@ impl<S: SendEnd> Sampler<S> {
         requires image { HaveImage segments.items }
         requires plans_of { ArePlansOf channel segments.items plans.items }
         requires rising { RiseFrom 0 plans.items }
+        requires keep { AllKeepTo (S.limit end) plans.items }
         requires running { (l : ℕ) → has_list running l ≡ true
             → list_any (λ (plan : ListPlan). nat_eq plan.list l) plans.items ≡ true }
         requires nothing_sent { S.sent end ≡ [] }

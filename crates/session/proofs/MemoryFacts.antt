@@ -38,6 +38,7 @@ over d xs small =
       unit = 3;
       ticks = 1;
       max_cto = 64;
+      max_dto = 64;
       name = with d.name [] (lit< tt);
       events = with d.events (record { capacity = 4096; name = with d.name (0x65 ∷ 0x30 ∷ []) (lit< tt); cycle = 0; cycle_unit = 0; priority = 0 } ∷ []) (lit< tt);
       a2l_name = with d.a2l_name [] (lit< tt);

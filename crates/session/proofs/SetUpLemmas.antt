@@ -24,6 +24,15 @@ pub same_odts-next : (odts : List (List (Option Entry))) (conf : Configuration) 
 same_odts-next odts conf k odt h inside is same before =
     prefix-next odts conf.odts k odt [] h inside before (sym is ∙ same ∙ odt_at conf k inside)
 
+-- one ODT more is held
+pub odts-next : (held more : List (List (Option Entry))) (conf : Configuration) (k : ℕ) (odt : List (Option Entry)) → k < length conf.odts
+    → odt ≡ odt_entries conf k → more ≡ held ++ odt ∷ [] → held ≡ take k conf.odts → more ≡ take (k + 1) conf.odts
+odts-next held more conf k odt inside is with_one before =
+    with_one
+    ∙ ap (λ zs. zs ++ odt ∷ []) before
+    ∙ ap (λ e. take k conf.odts ++ e ∷ []) (is ∙ odt_at conf k inside)
+    ∙ sym (take_more conf.odts k [] inside)
+
 entry_at : (conf : Configuration) (k i : ℕ) (x : Option Entry) → i < length (odt_entries conf k) → x ≡ entry_of conf k i
     → x ≡ get_or (odt_entries conf k) i None
 entry_at conf k i x h is =

@@ -12,7 +12,7 @@ use Rattle.session.specs.Replies.{clock_fields, comm_mode_fields, connect_reply,
 use Rattle.session.specs.Sources.{text_reply}
 use Rattle.session.specs.Requests.{request}
 
-connect : (d : Profile) → packet_of (connect_reply (record d { max_cto = 64 }) 0) ≡ 0xFF ∷ 0x04 ∷ 0x80 ∷ 0x40 ∷ 0x40 ∷ 0x00 ∷ 0x01 ∷ 0x01 ∷ []
+connect : (d : Profile) → packet_of (connect_reply (record d { max_cto = 64; max_dto = 64 }) 0) ≡ 0xFF ∷ 0x04 ∷ 0x80 ∷ 0x40 ∷ 0x40 ∷ 0x00 ∷ 0x01 ∷ 0x01 ∷ []
 connect d = refl
 
 connect_otherwise : (d : Profile) → packet_of (connect_reply d 1) ≡ 0xFE ∷ 0x22 ∷ []

@@ -3,7 +3,7 @@ use Rattle.std.proofs.Common.{◌≡◌, ◌∙◌, ℕ, ◌+◌, [], ◌∷◌,
 use Rattle.std.specs.Prelude.{◌==◌, ◌&&◌, ◌||◌, not, nat_lt}
 use Rattle.std.proofs.lemmas.Bool.Decides.{nat_tests}
 use Rattle.xcp_base.specs.declared.err_code.ErrCode.TheVariants.{DaqActive, OutOfRange, Sequence}
-use Rattle.xcp_base.specs.declared.limits.TheConstants.{MAX_ENTRY_SIZE}
+use Rattle.xcp_base.specs.Forms.{most_entry}
 use Rattle.segments.specs.Places.{segment_of}
 use Rattle.daq_store.specs.declared.command.Command.{Command}
 use Rattle.daq_store.specs.declared.command.Command.TheVariants.{ReadDaq, SetDaqPtr, WriteDaq}
@@ -39,11 +39,11 @@ third_fails false false true a b c = refl
 pub nowhere_is_out_of_range : NowhereIsOutOfRange
 nowhere_is_out_of_range d past given may bit size ext i j k l more nowhere =
     let packet : List ℕ = 0xE1 ∷ bit ∷ size ∷ ext ∷ i ∷ j ∷ k ∷ l ∷ more in
-    let bad : is_bad_entry (segments_of d) bit size ext (dword i j k l) ≡ true =
-    last_of_four (not (bit == 0xFF)) (size == 0) (nat_lt MAX_ENTRY_SIZE size) (is_none (segment_of (segments_of d) ext (dword i j k l) size)) (ap is_none nowhere) in
+    let bad : is_bad_entry (lists_of d) bit size ext (dword i j k l) ≡ true =
+    last_of_four (not (bit == 0xFF)) (size == 0) (nat_lt (most_entry (lists_of d).form) size) (is_none (segment_of (segments_of d) ext (dword i j k l) size)) (ap is_none nowhere) in
     ap (λ b. if b then Some (read_reply d past given packet (request d.max_cto packet)) else greeting_reply d (request d.max_cto packet)) may.connected
     ∙ ap (λ f. Some (reply_bytes (reply_by Positive f)))
-    (third_fails (is_active_at past.calls (pointer past.calls)) (is_none (pointer past.calls)) (is_bad_entry (segments_of d) bit size ext (dword i j k l)) may.stopped may.pointed bad)
+    (third_fails (is_active_at past.calls (pointer past.calls)) (is_none (pointer past.calls)) (is_bad_entry (lists_of d) bit size ext (dword i j k l)) may.stopped may.pointed bad)
 
 -- a pointer that is set to an entry is there
 pointer-set : (earlier : List Command) (l k e : ℕ) → nat_lt e (entry_count earlier l k) ≡ true → pointer (SetDaqPtr l k e ∷ earlier) ≡ Some (l, k, e)

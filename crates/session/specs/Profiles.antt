@@ -5,9 +5,10 @@ use Rattle.std.specs.Prelude.{List, [], ◌∷◌, length, Option, Some, None, i
 use Rattle.std.specs.Prelude.{option_map, unwrap_or}
 use Rattle.std.specs.List.{list_any}
 use Rattle.xcp_base.specs.declared.limits.TheConstants.{MAX_CHANNELS, MAX_CTO, MAX_ENTRIES}
-use Rattle.xcp_base.specs.declared.limits.TheConstants.{MAX_NAME, MAX_UNIT, MIN_CTO}
+use Rattle.xcp_base.specs.declared.limits.TheConstants.{MAX_NAME, MAX_ODTS_IN_ALL, MAX_PACKET}
+use Rattle.xcp_base.specs.declared.limits.TheConstants.{MAX_UNIT, MIN_CTO, MIN_DTO}
 use Rattle.frame_ring.specs.declared.limits.TheConstants.{MAX_FRAME_RING, MIN_FRAME_RING}
-use Rattle.xcp_base.specs.Forms.{form_of, size_of, usual_form}
+use Rattle.xcp_base.specs.Forms.{form_with, size_of, usual_form}
 use Rattle.daq_store.specs.Calls.{Profile as ListsProfile}
 use Rattle.session.specs.declared.profile.Profile.{Profile}
 use Rattle.segments.specs.declared.segment.Segment.{Segment}
@@ -74,6 +75,13 @@ cto_fault d =
     if nat_lt d.max_cto MIN_CTO || nat_lt MAX_CTO d.max_cto then Some fault.MaxCto
     else if nat_lt d.max_cto (8 + length d.name.items) then Some fault.Name else None
 
+-- a MAX_DTO that a slave may not have
+abbrev pub is_bad_dto : ℕ → Bool
+is_bad_dto n = nat_lt n MIN_DTO || nat_lt MAX_PACKET n
+
+abbrev pub dto_fault : Profile → Option ProfileFault
+dto_fault d = if is_bad_dto d.max_dto then Some fault.MaxDto else None
+
 -- the first limit that its texts of identification are out of
 abbrev pub texts_fault : Profile → Option ProfileFault
 texts_fault d =
@@ -86,16 +94,18 @@ abbrev pub profile_fault : Profile → Option ProfileFault
 profile_fault d =
     or_else (numbers_fault d)
     (or_else (names_fault d)
-    (or_else (memory_fault d) (or_else (cto_fault d) (texts_fault d))))
+    (or_else (memory_fault d)
+    (or_else (cto_fault d) (or_else (dto_fault d) (texts_fault d)))))
 
 -- what its store is made for
 abbrev pub lists_of : Profile → ListsProfile
 lists_of d =
     record {
       channels = length d.events.items;
+      most_odts = MAX_ODTS_IN_ALL;
       most_entries = MAX_ENTRIES;
       segments = segments_of d;
-      form = unwrap_or (form_of d.id d.stamp_size) usual_form;
+      form = unwrap_or (form_with d.id d.stamp_size d.max_dto) usual_form;
     }
 
 -- the text of GET_ID that UPLOAD reads
@@ -124,3 +134,5 @@ pub record IsProfile (d : Profile) : Type 0 where
   pub least : MIN_CTO ≤ d.max_cto
   pub most : d.max_cto ≤ MAX_CTO
   pub reply : 8 + length d.name.items ≤ d.max_cto
+  pub least_dto : MIN_DTO ≤ d.max_dto
+  pub most_dto : d.max_dto ≤ MAX_PACKET

@@ -8,7 +8,8 @@ use Rattle.xcp_base.specs.declared.err_code.ErrCode.{ErrCode}
 use Rattle.xcp_base.specs.declared.err_code.ErrCode.TheVariants.{OutOfRange}
 use Rattle.xcp_base.specs.declared.id_kind.IdKind.{IdKind}
 use Rattle.xcp_base.specs.declared.id_kind.IdKind.TheVariants.{Absolute, RelativeByte, RelativeWord}
-use Rattle.xcp_base.specs.declared.limits.TheConstants.{MAX_DTO, MAX_ENTRY_SIZE, MAX_LISTS}
+use Rattle.xcp_base.specs.declared.limits.TheConstants.{MAX_LISTS}
+use Rattle.xcp_base.specs.Forms.{most_entry}
 use Rattle.daq_store.specs.declared.command.Command.{Command}
 use Rattle.daq_store.specs.declared.mode.Mode.{Mode}
 use Rattle.daq_store.specs.declared.reply.Reply.{Reply}
@@ -29,7 +30,7 @@ connect_fields d =
     BYTE 0x04  -- RESOURCE: DAQ
     ++ BYTE 0x80  -- COMM_MODE_BASIC: OPTIONAL; Intel byte order, granularity BYTE, no block mode
     ++ BYTE d.max_cto  -- MAX_CTO
-    ++ WORD MAX_DTO  -- MAX_DTO
+    ++ WORD d.max_dto  -- MAX_DTO
     ++ BYTE 0x01  -- XCP protocol layer version
     ++ BYTE 0x01  -- XCP transport layer version
 
@@ -118,7 +119,7 @@ processor_fields d calls =
 abbrev pub resolution_fields : Profile → List ℕ
 resolution_fields d =
     BYTE 1  -- GRANULARITY_ODT_ENTRY_SIZE_DAQ
-    ++ BYTE MAX_ENTRY_SIZE  -- MAX_ODT_ENTRY_SIZE_DAQ
+    ++ BYTE (most_entry (lists_of d).form)  -- MAX_ODT_ENTRY_SIZE_DAQ
     ++ BYTE 1  -- GRANULARITY_ODT_ENTRY_SIZE_STIM
     ++ BYTE 0  -- MAX_ODT_ENTRY_SIZE_STIM
     ++ BYTE (d.stamp_size + 16 * d.unit)  -- TIMESTAMP_MODE: size, unit

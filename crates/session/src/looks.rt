@@ -9,7 +9,6 @@ use crate::request::Request;
 use crate::session::Session;
 use daq_store::ListConf;
 use xcp_base::ErrCode;
-use xcp_base::limits::MAX_ENTRY_SIZE;
 
 impl Session {
     /// GET_DAQ_LIST_INFO: the ODTs of the list, and the most entries of one of them.
@@ -40,7 +39,8 @@ impl Session {
         ensures reply { result ≡ packet_of (connect_reply self.now.profile 0) }
         ensures few { length result ≤ 8 }
     {
-        Cto::positive(&[0x04, 0x80, self.profile.max_cto, 0x40, 0x00, 0x01, 0x01])
+        let [low, high] = self.profile.max_dto.to_le_bytes();
+        Cto::positive(&[0x04, 0x80, self.profile.max_cto, low, high, 0x01, 0x01])
     }
 
     /// GET_STATUS: whether a list runs.
@@ -85,7 +85,8 @@ impl Session {
     {
         let mode = self.profile.stamp_size + 16 * self.profile.unit;
         let [low, high] = self.profile.ticks.to_le_bytes();
-        Cto::positive(&[0x01, MAX_ENTRY_SIZE, 0x01, 0x00, mode, low, high])
+        let most = self.store.most_entry();
+        Cto::positive(&[0x01, most, 0x01, 0x00, mode, low, high])
     }
 }
 

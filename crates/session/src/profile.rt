@@ -4,7 +4,7 @@ ghost use Rattle.std.specs.List.{list_any};
 ghost use Rattle.session.specs.Profiles.{profile_fault, numbers_fault, names_fault};
 ghost use Rattle.session.specs.Profiles.{cto_fault, memory_fault, texts_fault};
 ghost use Rattle.session.specs.Standing.{text_in};
-ghost use Rattle.session.specs.Profiles.{is_bad_capacity};
+ghost use Rattle.session.specs.Profiles.{is_bad_capacity, is_bad_dto};
 
 use crate::event_channel::{EventChannel, events_fault, is_bad_name};
 use crate::source::TextOf;
@@ -13,7 +13,7 @@ use frame_ring::limits::{MAX_FRAME_RING, MIN_FRAME_RING};
 use segments::limits::MAX_READERS;
 use segments::{Segment, SegmentFault, Segments};
 use thiserror::Error;
-use xcp_base::limits::{MAX_CHANNELS, MAX_CTO, MAX_UNIT, MIN_CTO};
+use xcp_base::limits::{MAX_CHANNELS, MAX_CTO, MAX_PACKET, MAX_UNIT, MIN_CTO, MIN_DTO};
 use xcp_base::{IdKind, StampSize};
 
 /// What a slave is opened with.
@@ -31,6 +31,8 @@ pub struct Profile {
     pub ticks: u16,
     /// MAX_CTO: the most bytes of a command packet and of a reply, 8 to 255.
     pub max_cto: u8,
+    /// MAX_DTO: the most bytes of a DAQ packet, 8 to 8192.
+    pub max_dto: u16,
     /// 0 to 56 bytes of ASCII, 0x20 to 0x7E, and at most `max_cto - 8`.
     pub name: Vec<u8>,
     /// The event channels, 1 to 16.
@@ -67,6 +69,8 @@ pub enum ProfileFault {
     Segments(SegmentFault),
     #[error("MAX_CTO is not 8 to 255")]
     MaxCto,
+    #[error("MAX_DTO is not 8 to 8192")]
+    MaxDto,
     #[error("the name of the A2L file is too long, or not of printable ASCII")]
     A2lName,
     #[error("the EPK is too long, or not of printable ASCII")]
@@ -91,6 +95,9 @@ impl Profile {
         }
         if let Some(fault) = self.cto_fault() {
             return Some(fault);
+        }
+        if is_bad_dto(self.max_dto) {
+            return Some(ProfileFault::MaxDto);
         }
         self.texts_fault()
     }
@@ -193,6 +200,13 @@ fn has_bad_capacity(events: &[EventChannel]) -> bool
     ensures { result ≡ list_any (λ e. is_bad_capacity e.capacity) events.now }
 {
     events.iter().any(|event| is_bad_capacity(event.capacity))
+}
+
+/// Whether MAX_DTO is out of its limits.
+fn is_bad_dto(max_dto: u16) -> bool
+    ensures { result ≡ is_bad_dto max_dto }
+{
+    max_dto < MIN_DTO || max_dto as usize > MAX_PACKET
 }
 
 /// Whether a ring may not have this capacity.

@@ -1,6 +1,7 @@
 //! What a session shows of its DAQ lists.
 ghost use Rattle.std.specs.Prelude.{◌≡◌, ℕ, ◌<◌, ◌≤◌};
 ghost use Rattle.xcp_base.specs.Lists.{has_list};
+ghost use Rattle.xcp_base.specs.declared.limits.TheConstants.{MAX_PACKET};
 ghost use Rattle.session.specs.Past.{Past};
 ghost use Rattle.session.specs.Profiles.{lists_of};
 ghost use Rattle.session.specs.Standing.{SessionStandsAfter};
@@ -19,6 +20,14 @@ impl Session {
         ensures least { 8 ≤ result }
     {
         self.profile.max_cto
+    }
+
+    /// MAX_DTO, as the profile says.
+    pub fn max_dto(&self) -> u16
+        ensures value { result ≡ self.now.profile.max_dto }
+        ensures most { result ≤ MAX_PACKET }
+    {
+        self.profile.max_dto
     }
 
     /// The DAQ lists, as they are set.

@@ -70,7 +70,7 @@ impl Session {
         let Ok(segments) = Segments::new(&profile.segments, channels) else {
             unreachable!()
         };
-        let limits = Limits::of_slaves();
+        let limits = Limits::of_slaves(profile.max_dto);
         let Ok(store) = Store::over(
             alloc,
             channels,

@@ -11,6 +11,7 @@ use Rattle.slave.specs.Finishing.{GivesBack}
 use Rattle.slave_channels.specs.Channels.{FinishedState, IsFinished}
 use Rattle.std.specs.Prelude.{Some, min}
 use Rattle.slave.specs.Log.{Act, CameBack, Discarded, HungUp, Sent, discarding, losing, sending as sent_acts, sent_laid, waits}
+use Rattle.slave.specs.Pages.{page_at}
 use Rattle.slave.specs.Standing.{SlaveStandsAfter, SlaveState}
 use Rattle.slave.specs.Taking.{TakesItems, most_taken}
 use Rattle.session_file.specs.Lines.{LineData, master}
@@ -98,7 +99,7 @@ text-sends : (a : SlaveState) (d : Profile) (log : List Act) (sent : List ℕ) (
     → sent ++ text a.outbox.counter (packets_in (first n a.outbox.waits)) ≡ sent_text d (Sent n ∷ log)
 text-sends a d log sent n stands so =
     ap (λ bs. bs ++ text a.outbox.counter (packets_in (first n a.outbox.waits))) so
-    ∙ more_text a.outbox n (sent_laid d log) (waits d log) stands.parts.has.outbox
+    ∙ more_text a.outbox (page_at d log) n (sent_laid d log) (waits d log) stands.parts.has.outbox
 
 sends-some : (a b : SlaveState) (sent more : List ℕ) (n : ℕ) → more ≡ sent ++ text a.outbox.counter (packets_in (first n a.outbox.waits)) → GoesBy a b (sent_acts n)
     → Advances 1 (sending a sent) (sending b more) []

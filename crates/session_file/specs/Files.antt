@@ -22,6 +22,7 @@ pub record IsProfileOf (v : KeyValues) (p : Profile) : Type 0 where
   pub unit_is : p.unit ≡ v.unit
   pub ticks_are : p.ticks ≡ v.ticks
   pub max_cto_is : p.max_cto ≡ v.max_cto
+  pub max_dto_is : p.max_dto ≡ v.max_dto
   pub name_is : p.name.items ≡ v.name
   pub a2l_name_is : p.a2l_name.items ≡ v.a2l_name
   pub epk_is : p.epk.items ≡ v.epk

@@ -35,6 +35,7 @@ values_data v = record {
   unit = v.unit;
   ticks = v.ticks;
   max_cto = v.max_cto;
+  max_dto = v.max_dto;
   name = v.name.now;
   a2l_name = v.a2l_name.now;
   epk = v.epk.now;

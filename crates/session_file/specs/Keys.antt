@@ -5,17 +5,17 @@ use Rattle.toml.specs.Data.{Data, Items, no_items, item, Members, no_members, me
 use Rattle.toml.specs.Data.{as_array, as_str}
 use Rattle.xcp_base.specs.declared.id_kind.IdKind.{IdKind}
 use Rattle.xcp_base.specs.declared.stamp_size.StampSize.{StampSize}
-use Rattle.xcp_base.specs.declared.limits.TheConstants.{MAX_CTO, MAX_UNIT, MIN_CTO}
+use Rattle.xcp_base.specs.declared.limits.TheConstants.{MAX_CTO, MAX_PACKET, MAX_UNIT, MIN_CTO, MIN_DTO}
 use Rattle.run_file.specs.Keys.{at_key, id_of, image_len_of, is_among, number_in, stamp_of}
 use Rattle.run_file.specs.Keys.{texts_at}
-use Rattle.session_file.specs.declared.limits.TheConstants.{MAX_LINES, USUAL_CTO}
+use Rattle.session_file.specs.declared.limits.TheConstants.{MAX_LINES, USUAL_PACKET}
 
 -- the keys of a session file, and of an event channel
 abbrev pub keys : List (List ℕ)
 keys =
     codes "image_len" ∷ codes "id" ∷ codes "stamp_size" ∷ codes "unit" ∷ codes "ticks"
-    ∷ codes "max_cto" ∷ codes "base" ∷ codes "name" ∷ codes "a2l_name" ∷ codes "epk"
-    ∷ codes "a2l" ∷ codes "segments" ∷ codes "events" ∷ codes "script" ∷ []
+    ∷ codes "max_cto" ∷ codes "max_dto" ∷ codes "base" ∷ codes "name" ∷ codes "a2l_name"
+    ∷ codes "epk" ∷ codes "a2l" ∷ codes "segments" ∷ codes "events" ∷ codes "script" ∷ []
 
 abbrev pub event_keys : List (List ℕ)
 event_keys =
@@ -43,13 +43,13 @@ number_or most (Some d) = number_in 0 most d
 abbrev pub number_or_0 : ℕ → List ℕ → Members → Option ℕ
 number_or_0 most key ms = number_or most (get_member key ms)
 
--- MAX_CTO of a value; 64 if there is none
-abbrev pub cto_or : Option Data → Option ℕ
-cto_or None = Some USUAL_CTO
-cto_or (Some d) = number_in MIN_CTO MAX_CTO d
+-- the most bytes of a packet, from `least` to `most`; 64 if there is no value
+abbrev pub packet_or : ℕ → ℕ → Option Data → Option ℕ
+packet_or least most None = Some USUAL_PACKET
+packet_or least most (Some d) = number_in least most d
 
-abbrev pub max_cto_of : Members → Option ℕ
-max_cto_of ms = cto_or (get_member (codes "max_cto") ms)
+abbrev pub packet_limit : ℕ → ℕ → List ℕ → Members → Option ℕ
+packet_limit least most key ms = packet_or least most (get_member key ms)
 
 -- the string of a value; the empty one if there is none
 abbrev pub text_or : Option Data → Option (List ℕ)
@@ -93,6 +93,7 @@ pub record KeyValues : Type 0 where
   pub unit : ℕ
   pub ticks : ℕ
   pub max_cto : ℕ
+  pub max_dto : ℕ
   pub name : List ℕ
   pub a2l_name : List ℕ
   pub epk : List ℕ
@@ -108,7 +109,8 @@ pub record AreKeyValues (ms : Members) (v : KeyValues) : Type 0 where
   pub stamp_is : stamp_of ms ≡ Some v.stamp
   pub unit_is : at_key (number_in 0 MAX_UNIT) (codes "unit") ms ≡ Some v.unit
   pub ticks_are : at_key (number_in 1 65535) (codes "ticks") ms ≡ Some v.ticks
-  pub max_cto_is : max_cto_of ms ≡ Some v.max_cto
+  pub max_cto_is : packet_limit MIN_CTO MAX_CTO (codes "max_cto") ms ≡ Some v.max_cto
+  pub max_dto_is : packet_limit MIN_DTO MAX_PACKET (codes "max_dto") ms ≡ Some v.max_dto
   pub name_is : text_or_empty (codes "name") ms ≡ Some v.name
   pub a2l_name_is : text_or_empty (codes "a2l_name") ms ≡ Some v.a2l_name
   pub epk_is : text_or_empty (codes "epk") ms ≡ Some v.epk

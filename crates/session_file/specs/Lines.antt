@@ -47,7 +47,7 @@ pub record IsTrigger (text : List ℕ) (channel stamp : ℕ) (slices : List (Lis
   pub fits : stamp < 2 ^ 32
   pub slices_are : AreTextsOf IsSlice (first ∷ more) slices
 
--- send N: frames of N bytes at most, which is no more than ever waits
+-- send N: frames of N bytes at most, which find room in one datagram
 pub record IsSendIn (text : List ℕ) (room : ℕ) : Type 0 where
   pub word : List ℕ
   pub words : text ≡ spaced (codes "send" ∷ word ∷ [])

@@ -3,12 +3,12 @@ ghost use Rattle.std.specs.Prelude.{IfSome};
 ghost use Rattle.toml.specs.View.{table_view};
 ghost use Rattle.session_file.specs.Keys.{HasBadKey};
 
-use crate::keys::{has_file_keys, has_key, max_cto_of, text_or_empty};
+use crate::keys::{has_file_keys, has_key, packet_limit, text_or_empty};
 use crate::limits::MAX_LINES;
 use crate::memory_keys::memory_of;
 use run_file::{array_at, id_of, number_at, stamp_of, texts_at};
 use toml::Table;
-use xcp_base::limits::{MAX_IMAGE_LEN, MAX_UNIT};
+use xcp_base::limits::{MAX_CTO, MAX_IMAGE_LEN, MAX_PACKET, MAX_UNIT, MIN_CTO, MIN_DTO};
 
 /// The key for which a table is no session.
 #[derive(Clone, Copy, Debug, PartialEq, Eq)]
@@ -24,6 +24,7 @@ pub enum BadKey {
     Unit,
     Ticks,
     MaxCto,
+    MaxDto,
     Name,
     A2lName,
     Epk,
@@ -56,8 +57,11 @@ impl BadKey {
         let Some(_) = number_at(table, "ticks", 1, u16::MAX as usize) else {
             return Some(BadKey::Ticks);
         };
-        let Some(_) = max_cto_of(table) else {
+        let Some(_) = packet_limit(table, "max_cto", MIN_CTO, MAX_CTO) else {
             return Some(BadKey::MaxCto);
+        };
+        let Some(_) = packet_limit(table, "max_dto", MIN_DTO as usize, MAX_PACKET) else {
+            return Some(BadKey::MaxDto);
         };
         let Some(_) = text_or_empty(table, "name") else {
             return Some(BadKey::Name);

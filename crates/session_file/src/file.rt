@@ -96,6 +96,7 @@ fn profile_of(
         unit: values.unit,
         ticks: values.ticks,
         max_cto: values.max_cto,
+        max_dto: values.max_dto,
         name: bytes_in(alloc, values.name)?,
         events,
         a2l_name: bytes_in(alloc, values.a2l_name)?,

@@ -1,16 +1,16 @@
 //! Values of keys, with their defaults.
 ghost use Rattle.std.specs.Prelude.{◌≡◌, ◌≤◌, IfOk, IfSome, option_copied};
 ghost use Rattle.toml.specs.View.{table_view};
-ghost use Rattle.session_file.specs.Keys.{event_keys, has_key, keys, max_cto_of, number_or_0};
-ghost use Rattle.session_file.specs.Keys.{only_keys, text_or_empty};
+ghost use Rattle.session_file.specs.Keys.{event_keys, has_key, keys, number_or_0, only_keys};
+ghost use Rattle.session_file.specs.Keys.{packet_limit, text_or_empty};
+ghost use Rattle.session_file.specs.declared.limits.TheConstants.{USUAL_PACKET};
 ghost use Rattle.session_file.specs.Memory.{segment_keys};
 ghost use Rattle.run_file.specs.Keys.{is_among};
 
-use crate::limits::USUAL_CTO;
+use crate::limits::USUAL_PACKET;
 use run_file::number_in;
 use std::alloc::{AllocError, Global};
 use toml::Table;
-use xcp_base::limits::{MAX_CTO, MIN_CTO};
 
 /// Whether each key of a table is one of a session file.
 pub fn has_file_keys(table: &Table) -> bool
@@ -29,6 +29,7 @@ pub fn is_file_key(word: &str) -> bool
         || word == "unit"
         || word == "ticks"
         || word == "max_cto"
+        || word == "max_dto"
         || word == "base"
         || word == "name"
         || word == "a2l_name"
@@ -92,14 +93,15 @@ pub fn number_or_0(table: &Table, key: &str, most: usize) -> Option<usize>
     }
 }
 
-/// MAX_CTO; `USUAL_CTO` if its key is absent.
-pub fn max_cto_of(table: &Table) -> Option<usize>
-    ensures value { result ≡ max_cto_of (table_view table.now) }
-    ensures within { IfSome result (λ n. n ≤ MAX_CTO) }
+/// The most bytes of a packet, from `least` to `most`; `USUAL_PACKET` if its key is absent.
+pub fn packet_limit(table: &Table, key: &str, least: usize, most: usize) -> Option<usize>
+    requires usual { USUAL_PACKET ≤ most }
+    ensures value { result ≡ packet_limit least most key.now (table_view table.now) }
+    ensures within { IfSome result (λ n. n ≤ most) }
 {
-    match table.get("max_cto") {
-        Some(value) => number_in(value, MIN_CTO, MAX_CTO),
-        None => Some(USUAL_CTO),
+    match table.get(key) {
+        Some(value) => number_in(value, least, most),
+        None => Some(USUAL_PACKET),
     }
 }
 

@@ -7,12 +7,12 @@ pub const MAX_LINES: usize = 1_000_000;
 /// TOML document. Whether a ring or a segment may have it is a limit of the profile.
 pub const MAX_INTEGER: usize = 0x7FFF_FFFF_FFFF_FFFF;
 
-/// MAX_CTO where a session file doesn't say it.
-pub const USUAL_CTO: usize = 64;
+/// MAX_CTO and MAX_DTO where a session file doesn't say them.
+pub const USUAL_PACKET: usize = 64;
 
 /// The last event channel that may read a segment. Whether a slave has it is a limit of the
 /// profile.
 pub const LAST_CHANNEL: usize = 15;
 
-/// The bytes of the greatest datagram: more than ever waits.
-pub const ROOM: usize = 8192;
+/// The most bytes of a datagram, by UDP. More may wait.
+pub const ROOM: usize = 65_507;

@@ -13,9 +13,10 @@ pub enum Line {
     },
     /// What the next packets read without a DAQ list.
     Memory(Vec<Vec<u8>>),
-    /// Items are taken off the rings, and all that waits is sent.
+    /// Items are taken off the rings, and what waits is sent: as many frames as find room in one
+    /// datagram.
     Send,
-    /// The same, of what waits as many frames as find room in so many bytes.
+    /// The same, but as many as find room in so many bytes.
     SendIn(u16),
     /// The same is shown, and the transport refuses it.
     Lose,

@@ -35,7 +35,8 @@ pub fn send(slave: &mut Slave, out: &mut VecOut, room: usize) -> Result<(), Allo
     Ok(())
 }
 
-/// Takes items off the rings, and shows all that waits to a transport that refuses it.
+/// Takes items off the rings, and shows the datagram that `send` sends to a transport that refuses
+/// it.
 pub fn lose(slave: &mut Slave)
     ensures shows { (sent : List ℕ) → Advances most_taken
         (sending slave.old sent) (sending slave.new sent) [] }

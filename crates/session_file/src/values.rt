@@ -7,12 +7,12 @@ ghost use Rattle.session_file.specs.Inner.{values_data};
 ghost use Rattle.session_file.specs.Memory.{count_of};
 
 use crate::file_fault::FileFault;
-use crate::keys::{has_file_keys, max_cto_of, text_or_empty};
+use crate::keys::{has_file_keys, packet_limit, text_or_empty};
 use crate::limits::MAX_LINES;
 use crate::memory_keys::{MemoryKeys, memory_of};
 use run_file::{array_at, id_of, number_at, stamp_of, texts_at};
 use toml::{Table, Value};
-use xcp_base::limits::MAX_UNIT;
+use xcp_base::limits::{MAX_CTO, MAX_PACKET, MAX_UNIT, MIN_CTO, MIN_DTO};
 use xcp_base::{IdKind, StampSize};
 
 /// The values of the keys, each of its type and within its limits. Segments and event channels are
@@ -25,6 +25,7 @@ pub struct Values<'a> {
     pub(crate) unit: u8,
     pub(crate) ticks: u16,
     pub(crate) max_cto: u8,
+    pub(crate) max_dto: u16,
     pub(crate) name: &'a str,
     pub(crate) a2l_name: &'a str,
     pub(crate) epk: &'a str,
@@ -56,7 +57,10 @@ pub fn values_of(table: &Table) -> Result<Values<'_>, FileFault>
     let Some(ticks) = number_at(table, "ticks", 1, u16::MAX as usize) else {
         return Err(FileFault::BadKey);
     };
-    let Some(max_cto) = max_cto_of(table) else {
+    let Some(max_cto) = packet_limit(table, "max_cto", MIN_CTO, MAX_CTO) else {
+        return Err(FileFault::BadKey);
+    };
+    let Some(max_dto) = packet_limit(table, "max_dto", MIN_DTO as usize, MAX_PACKET) else {
         return Err(FileFault::BadKey);
     };
     let Some(name) = text_or_empty(table, "name") else {
@@ -84,6 +88,7 @@ pub fn values_of(table: &Table) -> Result<Values<'_>, FileFault>
         unit: unit as u8,
         ticks: ticks as u16,
         max_cto: max_cto as u8,
+        max_dto: max_dto as u16,
         name,
         a2l_name,
         epk,

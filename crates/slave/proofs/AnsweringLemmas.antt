@@ -17,6 +17,7 @@ use Rattle.session.specs.Standing.{Exchanges, SessionStandsAfter, SessionState}
 use Rattle.session.specs.Starts.{is_on, runs, starts}
 use Rattle.session.specs.declared.profile.Profile.{Profile}
 use Rattle.slave_outbox.specs.Outboxes.{Laid, OutboxState}
+use Rattle.slave.specs.Pages.{page_at}
 use Rattle.slave_outbox.specs.Outboxes.{StandsAfter as OutboxStandsAfter}
 use Rattle.slave.specs.Inner.{PartsGoBy}
 use Rattle.slave.specs.Inner.{Answers, LaysReply, Settles}
@@ -65,11 +66,11 @@ exchange-starts d past x false is out l =
     ∙ ap (λ calls. not (runs past l) && is_active calls l) (same_calls d past x.given none_given x.packet)
 
 -- a reply stands behind all that waited
-pub reply-laid : (o p : OutboxState) (reply : Option (List ℕ)) (sent wait : List Laid) → LaysReply o p reply
-    → OutboxStandsAfter o sent wait → OutboxStandsAfter p sent (wait ++ reply_laid reply)
-reply-laid o p None sent wait lays stands =
-    subst (λ ys. OutboxStandsAfter p sent ys) (sym (append-nil wait)) (subst (λ z. OutboxStandsAfter z sent wait) (sym lays) stands)
-reply-laid o p (Some packet) sent wait lays stands = laid-behind o p (reply_laid (Some packet)) sent wait lays stands
+pub reply-laid : (o p : OutboxState) (reply : Option (List ℕ)) (page : ℕ) (sent wait : List Laid) → LaysReply o p reply
+    → OutboxStandsAfter o page sent wait → OutboxStandsAfter p page sent (wait ++ reply_laid reply)
+reply-laid o p None page sent wait lays stands =
+    subst (λ ys. OutboxStandsAfter p page sent ys) (sym (append-nil wait)) (subst (λ z. OutboxStandsAfter z page sent wait) (sym lays) stands)
+reply-laid o p (Some packet) page sent wait lays stands = laid-behind o p page (reply_laid (Some packet)) sent wait lays stands
 
 -- a packet was answered
 pub answered : (a b : SlaveState) (packet : List ℕ) (given : Given) (before now : ℕ) (reply : Option (List ℕ))
@@ -100,8 +101,8 @@ answered a b packet given before now reply exchanges profile was is settles lays
               profile = profile;
               session = behind;
               outbox =
-                  subst (λ r. OutboxStandsAfter b.outbox (sent_laid d log) (waits d log ++ reply_laid r)) said
-                  (reply-laid a.outbox b.outbox reply (sent_laid d log) (waits d log) lays has.outbox);
+                  subst (λ r. OutboxStandsAfter b.outbox (page_at d log) (sent_laid d log) (waits d log ++ reply_laid r)) said
+                  (reply-laid a.outbox b.outbox reply (page_at d log) (sent_laid d log) (waits d log) lays has.outbox);
               channels = λ c ch at. (both c ch at).0;
               out = settled-out a.channels b.channels before now (λ c m. is_out m c log) settles has.out;
               as_logged = settled-opens a.channels b.channels before now d (logged d log) settles has.as_logged;
@@ -135,7 +136,7 @@ hung-up a b before fresh profile was settles outbox plan account number = (
           is_log = has.is_log;
           profile = profile;
           session = fresh;
-          outbox = subst (λ o. OutboxStandsAfter o (sent_laid d log) (waits d log)) (sym outbox) has.outbox;
+          outbox = subst (λ o. OutboxStandsAfter o (page_at d log) (sent_laid d log) (waits d log)) (sym outbox) has.outbox;
           channels = λ c ch at. (both c ch at).0;
           out = settled-out a.channels b.channels before 0 (λ c m. is_out m c log) settles stands.has.out;
           as_logged = settled-opens a.channels b.channels before 0 d (logged d log) settles stands.has.as_logged;

@@ -14,9 +14,9 @@ use Rattle.session.specs.Standing.{SessionStandsAfter, SessionState}
 use Rattle.slave_channels.specs.Channels.{FinishedState, IsFinished}
 use Rattle.slave.specs.Finishing.{GivesBackBy}
 use Rattle.slave.specs.Hearing.{MayOpen, is_before, most_before, IsIdleRefusal}
-use Rattle.slave.specs.Inner.{PartsGoBy, AreAsOpened, Collects, HasOther, HasParts, IsOfOne, Prepares, SlaveStarted, StartsInVain, WantsPlaces}
+use Rattle.slave.specs.Inner.{PartsGoBy, AreAsOpened, AreInRings, Collects, HasOther, HasParts, HasTooLong, IsOfOne, IsRefusedAt, Prepares, SlaveStarted, StartsInVain}
 use Rattle.slave_channels.specs.Calls.{HasSome}
-use Rattle.slave.specs.Log.{Act, CameBack, Discarded, Heard, HungUp, Opened, Refused, Sent, Took, is_opening, is_return, opened}
+use Rattle.slave.specs.Log.{Act, CameBack, Discarded, Heard, HungUp, Opened, Refused, Sent, Took, is_opening, is_return, opened, past_of}
 use Rattle.slave.specs.Standing.{PartsStandAfter, SlaveState}
 use Rattle.slave.proofs.HearingLemmas.{assoc}
 
@@ -154,6 +154,9 @@ collected-prepare a m b lists collects some p = record {
   has_parts = λ log few stands.
       let way = between a m p.opening log collects few stands in
       way.lead (λ q xs. HasParts q xs lists) (p.has_parts (collects.acts ++ log) way.few way.stands);
+  in_rings = λ log few stands.
+      let way = between a m p.opening log collects few stands in
+      way.lead (λ q xs. AreInRings q (past_of q xs) lists) (p.in_rings (collects.acts ++ log) way.few way.stands);
   goes = λ log few stands.
       let way = between a m p.opening log collects few stands in
       way.lead (λ q xs. SlaveStarted q b xs lists) (p.goes (collects.acts ++ log) way.few way.stands);
@@ -167,13 +170,16 @@ collected-in-vain a m b lists code collects v = record {
   may_open = may-open-behind v.opening collects.acts v.may_open collects.are collects.few;
   places = λ past stands run other.
       let same = collects.session in
-      subst (λ s. (code ≡ CmdBusy) × WantsPlaces s lists b.channels) same
+      subst (λ s. IsRefusedAt s b.channels lists code) same
       (v.places past (subst (λ s. SessionStandsAfter s past) (sym same) stands) run other);
   when_idle = λ past stands none.
       idle-behind a.session.profile past a.number b code v.opening collects.acts collects.are
       (subst (λ n. IsIdleRefusal a.session.profile past n b code v.opening) collects.number
       (subst (λ (s : SessionState). IsIdleRefusal s.profile past m.number b code v.opening) collects.session
       (v.when_idle past (subst (λ s. SessionStandsAfter s past) (sym collects.session) stands) none)));
+  unopened = λ past stands none long.
+      let unopened = v.unopened past (subst (λ s. SessionStandsAfter s past) (sym collects.session) stands) none (subst (λ (s : SessionState). HasTooLong s.profile past lists) (sym collects.session) long) in
+      omega (arith, sum_by-append (λ a. if is_opening a then 1 else 0) v.opening collects.acts, none-opened collects.acts collects.are, unopened);
   sequence = λ log few stands.
       let way = between a m v.opening log collects few stands in
       way.lead (λ q xs. (code ≡ Sequence) ↔ HasOther q xs lists) (v.sequence (collects.acts ++ log) way.few way.stands);

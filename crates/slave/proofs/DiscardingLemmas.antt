@@ -15,6 +15,7 @@ use Rattle.slave_outbox.specs.Deeds.{runs as runs_there}
 use Rattle.slave_outbox.specs.Intakes.{StandsAfter}
 use Rattle.slave_outbox.proofs.DeedLemmas.{stands-beyond}
 use Rattle.slave_outbox.specs.Outboxes.{Laid, OutboxState, has_waiting, origins_in}
+use Rattle.slave.specs.Pages.{page_at}
 use Rattle.slave_outbox.specs.Outboxes.{StandsAfter as OutboxStandsAfter}
 use Rattle.slave_outbox.specs.declared.origin.Origin.{Origin}
 use Rattle.slave_outbox.specs.declared.origin.Origin.TheVariants as origin
@@ -149,7 +150,7 @@ left-beside d log n x a b at rest parts account has =
       is_log = has.is_log;
       profile = ap (λ (s : SessionState). s.profile) session ∙ has.profile;
       session = subst (λ s. SessionStandsAfter s (past_of d log)) (sym session) has.session;
-      outbox = subst (λ o. OutboxStandsAfter o (sent_laid d log) (waits d log)) (sym (ap (λ (s : SlaveState). s.outbox) rest)) has.outbox;
+      outbox = subst (λ o. OutboxStandsAfter o (page_at d log) (sent_laid d log) (waits d log)) (sym (ap (λ (s : SlaveState). s.outbox) rest)) has.outbox;
       channels = λ c ch there.
           let was = ap (λ zs. slice_get zs c) (sym channels) ∙ there in
           has-where _ (left_deeds d log n c) (left_deeds d log (n + 1) c) ch
@@ -321,7 +322,7 @@ left-told d log n m c l a b few at tells has =
       is_log = has.is_log;
       profile = ap (λ (z : SessionState). z.profile) changes.session ∙ has.profile;
       session = subst (λ z. SessionStandsAfter z (past_of d log)) (sym changes.session) has.session;
-      outbox = subst (λ z. OutboxStandsAfter z (sent_laid d log) (waits d log)) (sym (ap (λ (s : SlaveState). s.outbox) tells.rest)) has.outbox;
+      outbox = subst (λ z. OutboxStandsAfter z (page_at d log) (sent_laid d log) (waits d log)) (sym (ap (λ (s : SlaveState). s.outbox) tells.rest)) has.outbox;
       channels = channels-changed count f g a b c x y changes (λ k q other. same k q (λ e z. other (sym z))) here has.channels;
       out = out-changed (λ k q. is_out q k log) (λ k q. is_out q k log) a b c x y changes (λ k q other. refl) (out-kept (λ q. is_out q c log) x y told.part.keeps (has.out c x was)) has.out;
       as_logged = opened-changed d (logged d log) (logged d log) a b c x y changes (λ k ch other is. is) (opened-kept d (logged d log) c x y told.part.keeps (has.as_logged c x was)) has.as_logged;
@@ -451,7 +452,7 @@ told-late x m c l k a w b is same list none rest account =
 
 -- all of what waited was thrown away
 pub throws-away : (a s b : SlaveState) → LeavesFirst (length (origins_in a.outbox.waits)) a s → b ≡ record s { outbox = b.outbox }
-    → ((sent wait : List Laid) → OutboxStandsAfter s.outbox sent wait → OutboxStandsAfter b.outbox sent []) → PartsGoBy a b (Discarded ∷ [])
+    → ((page : ℕ) (sent wait : List Laid) → OutboxStandsAfter s.outbox page sent wait → OutboxStandsAfter b.outbox page sent []) → PartsGoBy a b (Discarded ∷ [])
 throws-away a s b leaves rest discards = (
   ap (λ (z : SlaveState). rings_of z.channels) rest ∙ leaves.lines,
   λ log few stands.
@@ -469,7 +470,7 @@ throws-away a s b leaves rest discards = (
           is_log = has.is_log;
           profile = ap (λ (z : SessionState). z.profile) session ∙ has.profile;
           session = subst (λ z. SessionStandsAfter z (past_of d log)) (sym session) has.session;
-          outbox = discards (sent_laid d log) (waits d log) has.outbox;
+          outbox = discards (page_at d log) (sent_laid d log) (waits d log) has.outbox;
           channels = λ c ch at.
               channel-same (opened log) (left_deeds d log n c) (λ m. deeds_of d m c (Discarded ∷ log)) (λ m. ap (λ ys. unsent_by m c ys ++ deeds_of d m c log) all) ch
               (has.channels c ch (ap (λ zs. slice_get zs c) (sym channels) ∙ at));

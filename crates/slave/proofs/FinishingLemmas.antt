@@ -5,6 +5,7 @@ use Rattle.std.proofs.lemmas.Bool.Decides.{eqb_tells}
 use Rattle.sampler.specs.Past.{Past as SamplerPast}
 use Rattle.session.specs.Standing.{SessionStandsAfter, SessionState}
 use Rattle.slave_outbox.specs.Outboxes.{StandsAfter as OutboxStandsAfter}
+use Rattle.slave.specs.Pages.{page_at}
 use Rattle.slave.specs.Inner.{PartsGoBy, counting}
 use Rattle.std.proofs.lemmas.Bool.{false≢true}
 use Rattle.frame_ring.specs.declared.frame_send.FrameSend.{FrameSend}
@@ -176,7 +177,7 @@ came-back a b c m x y past changes line outbox known = (
           profile = ap (λ (z : SessionState). z.profile) changes.session;
           session = subst (λ z. SessionStandsAfter z (past_of d log)) (sym changes.session) has.session;
           outbox =
-              subst (λ o. OutboxStandsAfter o (sent_laid d log) (waits d log)) (sym outbox) has.outbox;
+              subst (λ o. OutboxStandsAfter o (page_at d log) (sent_laid d log) (waits d log)) (sym outbox) has.outbox;
           channels = channels-changed (opened log) (λ k q. deeds_of d q k log) (λ k q. deeds_of d q k log) a b c x y changes (λ k q other. refl) here has.channels;
           out = out-changed (λ k q. is_out q k log) (λ k q. is_out q k (CameBack m c past ∷ log)) a b c x y changes
               (λ k q other. ap (λ e. has_part q k log && not e) (elsewhere m q c k (is_back q k log) (λ e. other (sym e)))) out has.out;

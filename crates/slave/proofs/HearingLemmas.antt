@@ -10,11 +10,12 @@ use Rattle.session.specs.Standing.{SessionStandsAfter, SessionState}
 use Rattle.session.specs.Exchanges.{Exchange}
 use Rattle.session.specs.Starts.{is_on, starts}
 use Rattle.slave_channels.specs.Channels.{ChannelState}
-use Rattle.slave_channels.specs.Calls.{rings_of}
-use Rattle.slave.specs.Hearing.{FindsNoPlaces, GoesBy, Hears, MayOpen, most_before, HasNoRoom, IsIdleRefusal}
+use Rattle.slave_channels.specs.Calls.{CanStartAll, rings_of}
+use Rattle.slave.specs.Hearing.{FindsNoPlaces, GoesBy, Hears, MayOpen, most_before, FindsPlaces, HasNoRoom, IsIdleRefusal, StartsTooLong}
 use Rattle.session.specs.declared.profile.Profile.{Profile}
-use Rattle.slave.specs.Inner.{Answers, PartsGoBy, counting, AreAsOpened, HasOther, HasParts, IsOfOne, LaysReply, Prepares, SlaveStarted, StartsInVain, WantsPlaces}
+use Rattle.slave.specs.Inner.{Answers, PartsGoBy, counting, AreAsOpened, AreInRings, HasPlaces, HasTooLong, HasOther, HasParts, IsOfOne, LaysReply, Prepares, SlaveStarted, StartsInVain, WantsPlaces}
 use Rattle.slave_channels.specs.Accounts.{AccountStandsAfter}
+use Rattle.slave.specs.Pages.{page_at}
 use Rattle.slave.specs.Log.{Act, Heard, Refused, entries_of, late_in, past_of, sent_laid, waits}
 use Rattle.slave.specs.Standing.{PartsStandAfter, SlaveState, StartsOther, StartsWell}
 use Rattle.slave.proofs.AnsweringLemmas.{reply-laid}
@@ -28,10 +29,11 @@ assoc (x ∷ a) b c = ap (λ xs. x ∷ xs) (assoc a b c)
 
 -- lists that the packet starts, by their set
 starts-well : (d : Profile) (log : List Act) (packet : List ℕ) (lists : ℕ) → ((l : ℕ) → l < MAX_LISTS → has_list lists l ≡ starts d (past_of d log) packet l)
-    → IsOfOne d log lists → AreAsOpened d log lists → HasParts d log lists → StartsWell d log packet
-starts-well d log packet lists are one opened parts = record {
+    → IsOfOne d log lists → AreAsOpened d log lists → HasParts d log lists → AreInRings d (past_of d log) lists → StartsWell d log packet
+starts-well d log packet lists are one opened parts rings = record {
   as_opened = λ l below is. opened l below (are l below ∙ is) (starts-list d (past_of d log) packet l is);
   has_parts = λ c l there below is on. parts c l there below (are l below ∙ is) on;
+  in_rings = λ l below is. rings l below (are l below ∙ is);
   in_one = λ some none. one (some.0, some.1, are some.0 some.1 ∙ some.2) none;
 }
 
@@ -42,6 +44,13 @@ other-starts d log packet lists are has = record { list = has.list; below = has.
 starts-other : (d : Profile) (log : List Act) (packet : List ℕ) (lists : ℕ) → ((l : ℕ) → l < MAX_LISTS → has_list lists l ≡ starts d (past_of d log) packet l)
     → StartsOther d log packet → HasOther d log lists
 starts-other d log packet lists are has = record { list = has.list; below = has.below; one = are has.list has.below ∙ has.starts_it; other = has.other; some = has.some }
+
+-- one of the lists that the packet starts has a sample that is too long, by their set
+long-starts : (d : Profile) (past : Past) (packet : List ℕ) (lists : ℕ) → ((l : ℕ) → l < MAX_LISTS → has_list lists l ≡ starts d past packet l) → HasTooLong d past lists → StartsTooLong d past packet
+long-starts d past packet lists are has = record { list = has.list; below = has.below; starts_it = sym (are has.list has.below) ∙ has.one; long = has.long }
+
+starts-long : (d : Profile) (past : Past) (packet : List ℕ) (lists : ℕ) → ((l : ℕ) → l < MAX_LISTS → has_list lists l ≡ starts d past packet l) → StartsTooLong d past packet → HasTooLong d past lists
+starts-long d past packet lists are has = record { list = has.list; below = has.below; one = are has.list has.below ∙ has.starts_it; long = has.long }
 
 not-refused : (x : Exchange) (packet : List ℕ) (code : ErrCode) → Heard x ≡ Refused packet code → ⊥
 not-refused x packet code is = cc
@@ -63,6 +72,16 @@ finds a b lists packet past wants channels stands are =
       state_is = ap (λ xs. slice_get xs none.channel) channels ∙ none.state_is;
       cannot = none.cannot;
     }
+
+-- they find places, by their set
+finds-places : (a b : SlaveState) {now : List ChannelState} (lists : ℕ) (packet : List ℕ) (past : Past) → HasPlaces a.session lists now → b.channels ≡ now → SessionStandsAfter a.session past
+    → ((l : ℕ) → l < MAX_LISTS → has_list lists l ≡ starts a.session.profile past packet l) → FindsPlaces a.session.profile past packet b
+finds-places a b lists packet past has channels stands are = record {
+  sets = has.sets;
+  as_many = has.as_many ∙ ap length (sym channels);
+  are = λ c set l at below. (has.are c set at).is past stands l below ∙ ap (λ x. x && is_on a.session.profile past c l) (are l below);
+  can = subst (CanStartAll has.sets) (sym channels) has.can;
+}
 
 -- a refusal where no list runs speaks of the event channels alone
 idle-refused : (d : Profile) (past : Past) (number : ℕ) (k b : SlaveState) (code : ErrCode) (opening : List Act) → b.channels ≡ k.channels
@@ -106,6 +125,7 @@ heard a k b lists packet given prepares same counts fits are answers =
           ];
       places = λ log stands run code is other. absurd (not-refused answers.exchange packet code is);
       when_idle = λ log stands none code is. absurd (not-refused answers.exchange packet code is);
+      too_long = λ log stands none code is long. absurd (not-refused answers.exchange packet code is);
       goes = goes-counted a b (Heard answers.exchange) prepares.opening fits counts refl prepares.may_open (
         answers.lines ∙ prepares.lines,
         λ log few stands.
@@ -118,7 +138,7 @@ heard a k b lists packet given prepares same counts fits are answers =
             ∙ ap (λ p. starts p (past_of p before) packet l) (sym profile))
             (subst (λ p. StartsWell p before packet) (sym profile)
             (starts-well d before packet lists (λ l below. are (past_of d before) (subst (λ s. SessionStandsAfter s (past_of d before)) same has.session) l below)
-            (prepares.in_one log (omega (arith, few)) stands) (prepares.as_opened log (omega (arith, few)) stands) (prepares.has_parts log (omega (arith, few)) stands)))
+            (prepares.in_one log (omega (arith, few)) stands) (prepares.as_opened log (omega (arith, few)) stands) (prepares.has_parts log (omega (arith, few)) stands) (prepares.in_rings log (omega (arith, few)) stands)))
             (subst (λ p. SlaveStarted p k before lists) (sym profile) has)),
       );
     }
@@ -141,10 +161,19 @@ refused a k b lists packet given code vain same counts fits are lays rest =
           let same-code = code-of packet code named is in
           let past = past_of d log in
           let found = vain.places past stands.parts.has.session run (λ e. other (sym same-code ∙ e)) in
-          (sym same-code ∙ found.0, finds a (counting b PER_PACKET) lists packet past found.1 channels stands.parts.has.session (λ l below. are past stands.parts.has.session l below));
+          elim found [
+            | inl busy ↦ inl (sym same-code ∙ busy.0, finds a (counting b PER_PACKET) lists packet past busy.1 channels stands.parts.has.session (λ l below. are past stands.parts.has.session l below))
+            | inr long ↦ inr (
+              sym same-code ∙ long.0,
+              long-starts d past packet lists (λ l below. are past stands.parts.has.session l below) (long.1 past stands.parts.has.session),
+              finds-places a (counting b PER_PACKET) lists packet past long.2 channels stands.parts.has.session (λ l below. are past stands.parts.has.session l below),
+            )
+          ];
       when_idle = λ log stands none named is.
           idle-refused a.session.profile (past_of d log) a.number k (counting b PER_PACKET) named vain.opening channels
           (subst (λ z. IsIdleRefusal d (past_of d log) a.number k z vain.opening) (code-of packet code named is) (vain.when_idle (past_of d log) stands.parts.has.session none));
+      too_long = λ log stands none named is long.
+          vain.unopened (past_of d log) stands.parts.has.session none (starts-long d (past_of d log) packet lists (λ l below. are (past_of d log) stands.parts.has.session l below) long);
       goes = goes-counted a b (Refused packet code) vain.opening fits (ap (λ (s : SlaveState). s.acts) rest ∙ counts) refl vain.may_open (
         ap rings_of channels ∙ vain.goes.0,
         λ log few stands.
@@ -167,7 +196,7 @@ refused a k b lists packet given code vain same counts fits are lays rest =
                 );
                 profile = ap (λ (s : SessionState). s.profile) (session ∙ same);
                 session = subst (λ s. SessionStandsAfter s (past_of d before)) (sym session) has.session;
-                outbox = reply-laid k.outbox b.outbox reply (sent_laid d before) (waits d before) lays has.outbox;
+                outbox = reply-laid k.outbox b.outbox reply (page_at d before) (sent_laid d before) (waits d before) lays has.outbox;
                 channels = λ c ch at. has.channels c ch (ap (λ xs. slice_get xs c) (sym channels) ∙ at);
                 out = λ c ch at. has.out c ch (ap (λ xs. slice_get xs c) (sym channels) ∙ at);
                 as_logged = λ c ch at. has.as_logged c ch (ap (λ xs. slice_get xs c) (sym channels) ∙ at);

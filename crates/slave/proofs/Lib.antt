@@ -26,6 +26,7 @@ pub mod StandingLemmas
 pub mod SettlingLemmas
 pub mod AnsweringLemmas
 pub mod PlanLemmas
+pub mod PageLemmas
 pub mod SetsLemmas
 pub mod PreparingLemmas
 pub mod HearingLemmas

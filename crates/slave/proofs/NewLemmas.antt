@@ -51,7 +51,7 @@ nothing-opened : (d : Profile) (c : ℕ) (ring : RingName) → IsAsLogged d (log
 nothing-opened d c ring = record { newer = λ p at. absurd (none_some p at); older = λ p at. absurd (none_some p at); came = refl }
 
 -- it stands after nothing
-pub new-stands : (d : Profile) (s : SessionState) (o : OutboxState) (channels : List ChannelState) (tasks : List (TaskState FrameSend)) (plan : List Configuration) (account : AccountState) (n : ℕ) → AccountStandsAfter account [] (λ m l. 0) → plan ≡ [] → s.profile ≡ d → SessionStandsAfter s new_past → OutboxStandsAfter o [] []
+pub new-stands : (d : Profile) (s : SessionState) (o : OutboxState) (channels : List ChannelState) (tasks : List (TaskState FrameSend)) (plan : List Configuration) (account : AccountState) (n : ℕ) → AccountStandsAfter account [] (λ m l. 0) → plan ≡ [] → s.profile ≡ d → SessionStandsAfter s new_past → OutboxStandsAfter o 0 [] []
     → AreNew n channels tasks → n ≡ length d.events.items
     → SlaveStandsAfter d (record { session = s; outbox = o; channels = channels; plan = plan; number = 0; account = account; acts = 0; next = 0 }) []
 new-stands d s o channels tasks plan account n fresh none profile session outbox new many =

@@ -79,7 +79,7 @@ ready-by d s past c l stands same there =
     ∙ ap (λ b. (b && is_ready s.profile.segments (configuration s.profile.form past.calls l)) && nat_eq (channel_of (configuration s.profile.form past.calls l).mode) c) (sym (below_is l (list_count past.calls) (omega (arith, there, count_stands s past.calls stands))))
     ∙ ap (λ (p : ListsProfile). is_on_after p past.calls c l) same
 
-plan-by-calls : (d : Profile) (s : StoreState) (past : Past) (l : ℕ) → StoreStandsAfter s past.calls → s.profile ≡ lists_of d → l < length s.lists → list_plan s l ≡ plan_after d past l
+pub plan-by-calls : (d : Profile) (s : StoreState) (past : Past) (l : ℕ) → StoreStandsAfter s past.calls → s.profile ≡ lists_of d → l < length s.lists → list_plan s l ≡ plan_after d past l
 plan-by-calls d s past l stands same there =
     let pid = first_pid_stands s past.calls l stands (omega (arith, there, count_stands s past.calls stands)) in
     ap (λ k. list_plan_of l k (first_pid_of s l) s.profile.segments) (conf_after s past.calls l stands there)

@@ -32,7 +32,7 @@ map-next f n =
     ap (λ k. map f (numbers_below k)) one ∙ ap (map f) (range-next 0 n) ∙ map-append f (numbers_below n) ((0 + n) ∷ [])
     ∙ ap (λ k. map f (numbers_below n) ++ f k ∷ []) (zero-add n)
 
-map-same : {X : Type 0} (f g : ℕ → X) (n : ℕ) → ((l : ℕ) → l < n → f l ≡ g l) → map f (numbers_below n) ≡ map g (numbers_below n)
+pub map-same : {X : Type 0} (f g : ℕ → X) (n : ℕ) → ((l : ℕ) → l < n → f l ≡ g l) → map f (numbers_below n) ≡ map g (numbers_below n)
 map-same f g zero same = refl
 map-same f g (suc n) same =
     let one : suc n ≡ n + 1 = omega arith in

@@ -17,11 +17,12 @@ use Rattle.slave_channels.specs.Each.{IsEach}
 use Rattle.slave_channels.specs.Calls.{rings_of}
 use Rattle.slave.specs.Hearing.{MayOpen, most_before, HasNoRoom, IsIdleRefusal}
 use Rattle.slave.specs.Openings.{capacities_of}
+use Rattle.slave.specs.Pages.{page_over}
 use Rattle.slave.specs.Plans.{IsSame, plan_of}
 use Rattle.slave.proofs.PlanLemmas.{as-opened, is-same, just-opened}
 use Rattle.session.specs.Profiles.{lists_of}
 use Rattle.xcp_base.specs.declared.err_code.ErrCode.TheVariants.{CmdBusy, MemoryOverflow, Sequence}
-use Rattle.slave.specs.Inner.{AreSets, Busy, HasParts, HasRoom, Idle, IsBusy, IsPlaceRefusal, LooksAtAll, OpensAll, OpensInVain, OpensNone, Prepares, SlaveStarted, StartsInVain, StartsLists, WantsRoom, AreJustOut}
+use Rattle.slave.specs.Inner.{AreSets, Busy, HasParts, HasRoom, Idle, IsPlaceRefusal, IsRefusedAt, NoneIsTooLong, LooksAtAll, OpensAll, OpensInVain, OpensNone, Prepares, SlaveStarted, StartsInVain, StartsLists, WantsRoom, AreJustOut}
 use Rattle.slave.specs.Log.{Act, Opened, opened, past_of}
 use Rattle.slave.specs.Standing.{SlaveHas, PartsStandAfter, SlaveState, number_of}
 use Rattle.slave.proofs.StandingLemmas.{lines-looked, lines-new, lines-started, looks-at-all, looks-ended, opens-all, opens-in-vain, parts-all, parts-vain, starts-all, starts-no-list, starts-parts, Parts, are-parts, has-some, there-is}
@@ -54,6 +55,10 @@ front-many n k m xs same many few = length-take n xs ∙ omega (arith, same, man
 pub on-ok : {A B : Type 0} (r : Result A B) (P Q : Type 0) → (P → Q) → OnOk r P → OnOk r Q
 on-ok (Ok x) P Q f p = f p
 on-ok (Err e) P Q f p = p
+
+pub on-ok-both : {A B : Type 0} (r : Result A B) (P R Q : Type 0) → (P → R → Q) → OnOk r P → OnOk r R → OnOk r Q
+on-ok-both (Ok x) P R Q f p q = f p q
+on-ok-both (Err e) P R Q f p q = p
 
 pub on-err : {A B : Type 0} (r : Result A B) (P Q : Type 0) → (P → Q) → OnErr r P → OnErr r Q
 on-err (Ok x) P Q f p = p
@@ -154,8 +159,8 @@ parts-behind d a b log lists s has =
 
 -- lists of the measurement that is there are started
 pub starts-prepare : (a b : SlaveState) (lists : ℕ) → StartsLists a b lists → Busy a.session → a.session.store.profile ≡ lists_of a.session.profile
-    → ((l : ℕ) → l < MAX_LISTS → has_list lists l ≡ true → IsSame a.plan a.session.store l) → Prepares most_before a b lists
-starts-prepare a b lists s busy profile same = record {
+    → NoneIsTooLong a.session lists → ((l : ℕ) → l < MAX_LISTS → has_list lists l ≡ true → IsSame a.plan a.session.store l) → Prepares most_before a b lists
+starts-prepare a b lists s busy profile rings same = record {
   opening = [];
   may_open = nothing-opened most_before;
   for_some = inl refl;
@@ -163,6 +168,7 @@ starts-prepare a b lists s busy profile same = record {
   in_one = λ log few stands some none. absurd (busy (past_of a.session.profile log) stands.has.session none);
   as_opened = λ log few stands l below one there. as-opened a.session.profile a.session a.plan log l profile stands.has.session stands.has.plan (same l below one);
   has_parts = λ log few stands. parts-behind a.session.profile a b log lists s stands.has;
+  in_rings = λ log few stands. rings (past_of a.session.profile log) stands.has.session;
   goes = λ log few stands. started-behind a.session.profile a b log lists (omega (arith, few)) s stands.has;
 }
 
@@ -175,21 +181,31 @@ none-prepare a lists none = record {
   in_one = λ log few stands some quiet. absurd (false≢true (sym (none some.0 some.1) ∙ some.2));
   as_opened = λ log few stands l below one there. absurd (false≢true (sym (none l below) ∙ one));
   has_parts = λ log few stands c l within below one on. absurd (false≢true (sym (none l below) ∙ one));
+  in_rings = λ log few stands l below one. absurd (false≢true (sym (none l below) ∙ one));
   goes = λ log few stands. starts-no-list a.session.profile a log lists none stands.has;
 }
 
--- lists are not started, since there is no place for the orders
-pub looks-in-vain : (a b : SlaveState) (lists : ℕ) (code : ErrCode) → Busy a.session → IsBusy a b lists code → LooksAtAll a b → HasSome lists → a.session.store.profile ≡ lists_of a.session.profile
+-- a refusal while lists run is one for want of places, or of room
+place-of : (s : SessionState) (now : List ChannelState) (lists : ℕ) (code : ErrCode) → IsRefusedAt s now lists code → IsPlaceRefusal code
+place-of s now lists code is =
+    elim is [
+      | inl busy ↦ inl busy.0
+      | inr long ↦ inr long.0
+    ]
+
+-- lists are not started, since there is no place for the orders, or no room in a ring
+pub looks-in-vain : (a b : SlaveState) (lists : ℕ) (code : ErrCode) → Busy a.session → IsRefusedAt a.session b.channels lists code → LooksAtAll a b → HasSome lists → a.session.store.profile ≡ lists_of a.session.profile
     → ((l : ℕ) → l < MAX_LISTS → has_list lists l ≡ true → IsSame a.plan a.session.store l) → StartsInVain most_before a b lists code
 looks-in-vain a b lists code busy is looks some profile same = record {
-  is = inr (inl is.0);
+  is = inr (place-of a.session b.channels lists code is);
   some = some;
   opening = [];
   may_open = nothing-opened most_before;
   places = λ past stands run other. is;
   when_idle = λ past stands none. absurd (busy past stands none);
+  unopened = λ past stands none. absurd (busy past stands none);
   sequence = λ log few stands. (
-    λ e. absurd (place-code code (inl is.0) e),
+    λ e. absurd (place-code code (place-of a.session b.channels lists code is) e),
     λ other. absurd (other.other (as-opened a.session.profile a.session a.plan log other.list profile stands.has.session stands.has.plan (same other.list other.below other.one))),
   );
   goes = (
@@ -211,6 +227,7 @@ other-in-vain a lists l busy profile below one other = record {
   may_open = nothing-opened most_before;
   places = λ past stands run other. absurd (other refl);
   when_idle = λ past stands none. absurd (busy past stands none);
+  unopened = λ past stands none. absurd (busy past stands none);
   sequence = λ log few stands. (
     λ e. record {
       list = l;
@@ -270,6 +287,7 @@ memory-in-vain a b lists code is room idle some same = record {
     );
     ended = λ some two. absurd (some refl);
   };
+  unopened = λ past stands none long. refl;
   sequence = λ log few stands. (λ e. absurd (place-code code (inr is) e), λ other. absurd (other.some (idle (past_of a.session.profile log) stands.has.session)));
   goes = (ap (λ (s : SlaveState). rings_of s.channels) same, λ log few stands. subst (λ s. PartsStandAfter a.session.profile s log) (sym same) stands);
 } where
@@ -288,21 +306,22 @@ full-in-vain a lists wants idle some = record {
     unopened = λ unopened. (λ busy. no-room a past wants stands, λ two. refl);
     ended = λ some two. absurd (some refl);
   };
+  unopened = λ past stands none long. refl;
   sequence = λ log few stands. (λ e. absurd (place-code CmdBusy (inl refl) e), λ other. absurd (other.some (idle (past_of a.session.profile log) stands.has.session)));
   goes = (refl, λ log few stands. stands);
 }
 
-pub opens-of : (v w : SlaveState) (x : List ChannelState) (store : StoreState) (caps sets : List ℕ) (all : ℕ) → ((l : ℕ) → l < MAX_LISTS → has_list all l ≡ true) → AreSets w.session all sets → w ≡ v → store ≡ w.session.store → w.plan ≡ plan_of w.session.store → w.session.store.profile ≡ lists_of w.session.profile → length caps ≡ length w.channels → length sets ≡ length w.channels → caps ≡ capacities_of w.session.profile
+pub opens-of : (v w : SlaveState) (x : List ChannelState) (store : StoreState) (caps sets : List ℕ) (all : ℕ) → ((l : ℕ) → l < MAX_LISTS → has_list all l ≡ true) → AreSets w.session all sets → w ≡ v → store ≡ w.session.store → w.plan ≡ plan_of w.session.store → w.outbox.page ≡ page_over w.session.store → w.session.store.profile ≡ lists_of w.session.profile → length caps ≡ length w.channels → length sets ≡ length w.channels → caps ≡ capacities_of w.session.profile
     → IsEach (OpensAt store w.number caps sets) w.channels x
     → OpensAll v (record w { channels = x; number = (w.number + 1) % 18446744073709551616 })
-opens-of v w x store caps sets all are_all are same st plan lists many_caps many_sets caps_are opens =
-    subst (λ (u : SlaveState). AreSets u.session all sets → u.plan ≡ plan_of u.session.store → u.session.store.profile ≡ lists_of u.session.profile → length caps ≡ length u.channels → length sets ≡ length u.channels → caps ≡ capacities_of u.session.profile → IsEach (OpensAt u.session.store u.number caps sets) u.channels x
+opens-of v w x store caps sets all are_all are same st plan page lists many_caps many_sets caps_are opens =
+    subst (λ (u : SlaveState). AreSets u.session all sets → u.plan ≡ plan_of u.session.store → u.outbox.page ≡ page_over u.session.store → u.session.store.profile ≡ lists_of u.session.profile → length caps ≡ length u.channels → length sets ≡ length u.channels → caps ≡ capacities_of u.session.profile → IsEach (OpensAt u.session.store u.number caps sets) u.channels x
     → OpensAll v (record u { channels = x; number = (u.number + 1) % 18446744073709551616 })) (sym same)
-    (λ e k f p q r o. record { caps = caps; caps_are = r; sets = sets; all = all; are_all = are_all; are = e; as_many_caps = p; as_many_sets = q; channels = o; rest = record { session = refl; outbox = refl; plan = k; lists = f; account = refl; number = refl; counted = refl; next = refl } }) are plan lists many_caps many_sets caps_are (subst (λ z. IsEach (OpensAt z w.number caps sets) w.channels x) st opens)
+    (λ e k n f p q r o. record { caps = caps; caps_are = r; sets = sets; all = all; are_all = are_all; are = e; as_many_caps = p; as_many_sets = q; channels = o; rest = record { session = refl; outbox = ap (λ m. record v.outbox { page = m }) n; plan = k; lists = f; account = refl; number = refl; counted = refl; next = refl } }) are plan page lists many_caps many_sets caps_are (subst (λ z. IsEach (OpensAt z w.number caps sets) w.channels x) st opens)
 
--- whatever plan there was before
-pub opens-anyhow : (v b : SlaveState) (plan : List Configuration) → OpensAll (record v { plan = plan }) b → OpensAll v b
-opens-anyhow v b plan o = record {
+-- whatever plan and page there were before
+pub opens-anyhow : (v b : SlaveState) (plan : List Configuration) (page : ℕ) → OpensAll (record v { plan = plan; outbox = record v.outbox { page = page } }) b → OpensAll v b
+opens-anyhow v b plan page o = record {
   caps = o.caps;
   caps_are = o.caps_are;
   sets = o.sets;
@@ -315,13 +334,13 @@ opens-anyhow v b plan o = record {
   rest = record { session = o.rest.session; outbox = o.rest.outbox; plan = o.rest.plan; lists = o.rest.lists; account = o.rest.account; number = o.rest.number; counted = o.rest.counted; next = o.rest.next };
 }
 
-pub vain-of : (v w : SlaveState) (x : List ChannelState) (store : StoreState) (caps sets : List ℕ) → w ≡ v → store ≡ w.session.store → w.plan ≡ plan_of w.session.store → w.session.store.profile ≡ lists_of w.session.profile → length caps ≡ length w.channels → length sets ≡ length w.channels → caps ≡ capacities_of w.session.profile
+pub vain-of : (v w : SlaveState) (x : List ChannelState) (store : StoreState) (caps sets : List ℕ) → w ≡ v → store ≡ w.session.store → w.plan ≡ plan_of w.session.store → w.outbox.page ≡ page_over w.session.store → w.session.store.profile ≡ lists_of w.session.profile → length caps ≡ length w.channels → length sets ≡ length w.channels → caps ≡ capacities_of w.session.profile
     → IsEach (OpenedAndEnded store w.number caps sets) w.channels x
     → OpensInVain v (record w { channels = x; number = (w.number + 1) % 18446744073709551616 })
-vain-of v w x store caps sets same st plan lists many_caps many_sets caps_are opens =
-    subst (λ (u : SlaveState). u.plan ≡ plan_of u.session.store → u.session.store.profile ≡ lists_of u.session.profile → length caps ≡ length u.channels → length sets ≡ length u.channels → caps ≡ capacities_of u.session.profile → IsEach (OpenedAndEnded u.session.store u.number caps sets) u.channels x
+vain-of v w x store caps sets same st plan page lists many_caps many_sets caps_are opens =
+    subst (λ (u : SlaveState). u.plan ≡ plan_of u.session.store → u.outbox.page ≡ page_over u.session.store → u.session.store.profile ≡ lists_of u.session.profile → length caps ≡ length u.channels → length sets ≡ length u.channels → caps ≡ capacities_of u.session.profile → IsEach (OpenedAndEnded u.session.store u.number caps sets) u.channels x
     → OpensInVain v (record u { channels = x; number = (u.number + 1) % 18446744073709551616 })) (sym same)
-    (λ k f p q r o. record { caps = caps; caps_are = r; sets = sets; as_many_caps = p; as_many_sets = q; channels = o; rest = record { session = refl; outbox = refl; plan = k; lists = f; account = refl; number = refl; counted = refl; next = refl } }) plan lists many_caps many_sets caps_are (subst (λ z. IsEach (OpenedAndEnded z w.number caps sets) w.channels x) st opens)
+    (λ k n f p q r o. record { caps = caps; caps_are = r; sets = sets; as_many_caps = p; as_many_sets = q; channels = o; rest = record { session = refl; outbox = ap (λ m. record v.outbox { page = m }) n; plan = k; lists = f; account = refl; number = refl; counted = refl; next = refl } }) plan page lists many_caps many_sets caps_are (subst (λ z. IsEach (OpenedAndEnded z w.number caps sets) w.channels x) st opens)
 
 -- where a measurement was just opened each event channel of which a list is ready has a sampler that was just handed out
 pub just-out : (a m : SlaveState) → OpensAll a m → AreJustOut m
@@ -342,8 +361,8 @@ just-out a m opens c l ch below on at =
       both false y a b = a
 
 -- lists of a measurement that was opened are started
-pub opens-prepare : (a m b : SlaveState) (lists : ℕ) → OpensAll a m → Idle a.session → HasSome lists → StartsLists m b lists → Prepares 1 a b lists
-opens-prepare a m b lists opens idle some s = record {
+pub opens-prepare : (a m b : SlaveState) (lists : ℕ) → OpensAll a m → Idle a.session → HasSome lists → NoneIsTooLong a.session lists → StartsLists m b lists → Prepares 1 a b lists
+opens-prepare a m b lists opens idle some rings s = record {
   opening = Opened (parts-all a m opens).at ∷ [];
   may_open = one-opened (parts-all a m opens).at;
   for_some = inr some;
@@ -354,6 +373,7 @@ opens-prepare a m b lists opens idle some s = record {
       let d = a.session.profile in
       parts-behind d m b (Opened (parts-all a m opens).at ∷ log) lists s
       (opens-all d a m log (omega (arith, few)) (idle (past_of d log) stands.has.session) stands opens);
+  in_rings = λ log few stands. rings (past_of a.session.profile log) stands.has.session;
   goes = λ log few stands.
       let d = a.session.profile in
       started-behind d m b (Opened (parts-all a m opens).at ∷ log) lists (omega (arith, few)) s
@@ -379,14 +399,14 @@ idle-opened a b past at code own = record { unopened = λ none. absurd (one none
   one : opened (Opened at ∷ []) ≡ 0 → ⊥
   one none = omega (arith, opened-more at [], none)
 
-pub none-in-vain : (a b : SlaveState) (lists : ℕ) (code : ErrCode) → HasRoom a → Idle a.session → HasSome lists → OpensNone a b code → StartsInVain 1 a b lists code
-none-in-vain a b lists code room idle some opens =
+pub none-in-vain : (a b : SlaveState) (lists : ℕ) (code : ErrCode) → HasRoom a → Idle a.session → HasSome lists → NoneIsTooLong a.session lists → OpensNone a b code → StartsInVain 1 a b lists code
+none-in-vain a b lists code room idle some rings opens =
     elim opens [
       | inl memory ↦ memory-in-vain a b lists code memory.0 room idle some memory.1
-      | inr both ↦ vain-in-vain a b lists code both.0 room idle some both.1
+      | inr both ↦ vain-in-vain a b lists code both.0 room idle some rings both.1
     ] where
-      vain-in-vain : (a b : SlaveState) (lists : ℕ) (code : ErrCode) → IsPlaceRefusal code → HasRoom a → Idle a.session → HasSome lists → OpensInVain a b → StartsInVain 1 a b lists code
-      vain-in-vain a b lists code is room idle some vain = record {
+      vain-in-vain : (a b : SlaveState) (lists : ℕ) (code : ErrCode) → IsPlaceRefusal code → HasRoom a → Idle a.session → HasSome lists → NoneIsTooLong a.session lists → OpensInVain a b → StartsInVain 1 a b lists code
+      vain-in-vain a b lists code is room idle some rings vain = record {
         is = inr is;
         some = some;
         opening = Opened (parts-vain a b vain).at ∷ [];
@@ -395,6 +415,7 @@ none-in-vain a b lists code room idle some opens =
         when_idle = λ past stands none.
             idle-opened a b past (parts-vain a b vain).at code
             (own-part a b past room stands vain.channels.as_many (parts-vain a b vain));
+        unopened = λ past stands none long. absurd (false≢true (sym (rings past stands long.list long.below long.one) ∙ long.long));
         sequence = λ log few stands. (λ e. absurd (place-code code is e), λ other. absurd (other.some (idle (past_of a.session.profile log) stands.has.session)));
         goes = (
           lines-new a b vain.channels.as_many (parts-vain a b vain),

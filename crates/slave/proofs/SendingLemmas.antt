@@ -3,6 +3,7 @@ use Rattle.std.proofs.Common.{◌≡◌, ℕ, zero, suc, ◌+◌, ◌<◌, ◌�
 use Rattle.std.proofs.lemmas.Bool.Decides.{leb_tells}
 use Rattle.session.specs.Standing.{SessionStandsAfter, SessionState}
 use Rattle.slave_outbox.specs.Outboxes.{Laid, OutboxState}
+use Rattle.slave.specs.Pages.{page_at}
 use Rattle.slave_outbox.specs.Outboxes.{StandsAfter as OutboxStandsAfter}
 use Rattle.slave_channels.specs.Calls.{rings_of}
 use Rattle.slave.specs.Hearing.{GoesBy}
@@ -48,7 +49,7 @@ drop-min n m xs is =
 
 -- the first of what waited was sent
 sent-stands : (a b : SlaveState) (shown n : ℕ) → n ≡ min shown (length a.outbox.waits) → b ≡ record a { outbox = b.outbox }
-    → ((sent waits : List Laid) → OutboxStandsAfter a.outbox sent waits → OutboxStandsAfter b.outbox (sent ++ first shown waits) (drop shown waits))
+    → ((page : ℕ) (sent waits : List Laid) → OutboxStandsAfter a.outbox page sent waits → OutboxStandsAfter b.outbox page (sent ++ first shown waits) (drop shown waits))
     → PartsGoBy a b (Sent n ∷ [])
 sent-stands a b shown n many rest moves = (
   ap (λ (s : SlaveState). rings_of s.channels) rest,
@@ -57,7 +58,7 @@ sent-stands a b shown n many rest moves = (
       let has = stands.has in
       let wait = waits d log in
       let n_is : n ≡ min shown (length wait) = many ∙ ap (λ xs. min shown (length xs)) has.outbox.waiting in
-      let moved = moves (sent_laid d log) wait has.outbox in
+      let moved = moves (page_at d log) (sent_laid d log) wait has.outbox in
       let session = ap (λ (s : SlaveState). s.session) rest in
       let channels = ap (λ (s : SlaveState). s.channels) rest in
       record {
@@ -66,8 +67,8 @@ sent-stands a b shown n many rest moves = (
           is_log = (omega (arith, n_is), has.is_log);
           profile = ap (λ (s : SessionState). s.profile) session;
           session = subst (λ s. SessionStandsAfter s (past_of d log)) (sym session) has.session;
-          outbox = subst (λ ys. OutboxStandsAfter b.outbox (sent_laid d log ++ ys) (drop n wait)) (take-min shown n wait n_is)
-              (subst (λ ys. OutboxStandsAfter b.outbox (sent_laid d log ++ first shown wait) ys) (drop-min shown n wait n_is) moved);
+          outbox = subst (λ ys. OutboxStandsAfter b.outbox (page_at d log) (sent_laid d log ++ ys) (drop n wait)) (take-min shown n wait n_is)
+              (subst (λ ys. OutboxStandsAfter b.outbox (page_at d log) (sent_laid d log ++ first shown wait) ys) (drop-min shown n wait n_is) moved);
           channels = λ c ch at. has.channels c ch (ap (λ zs. slice_get zs c) (sym channels) ∙ at);
           out = λ c ch at. has.out c ch (ap (λ zs. slice_get zs c) (sym channels) ∙ at);
           as_logged = λ c ch at. has.as_logged c ch (ap (λ zs. slice_get zs c) (sym channels) ∙ at);
@@ -82,7 +83,7 @@ sent-stands a b shown n many rest moves = (
 
 -- where the outbox alone changed, and it stands after the same
 outbox-alone : (a b : SlaveState) (log : List Act) → b ≡ record a { outbox = b.outbox }
-    → OutboxStandsAfter b.outbox (sent_laid a.session.profile log) (waits a.session.profile log)
+    → OutboxStandsAfter b.outbox (page_at a.session.profile log) (sent_laid a.session.profile log) (waits a.session.profile log)
     → PartsStandAfter a.session.profile a log → PartsStandAfter a.session.profile b log
 outbox-alone a b log rest outbox stands =
     let d = a.session.profile in
@@ -115,13 +116,13 @@ shown-stands a b rest same = (
       let d = a.session.profile in
       let box = stands.has.outbox in
       outbox-alone a b log rest
-      (subst (λ o. OutboxStandsAfter o (sent_laid d log) (waits d log)) (sym same)
-      (record { gone = box.gone; counter = box.counter; waiting = box.waiting })) stands,
+      (subst (λ o. OutboxStandsAfter o (page_at d log) (sent_laid d log) (waits d log)) (sym same)
+      (record { gone = box.gone; counter = box.counter; waiting = box.waiting; page_is = box.page_is })) stands,
 )
 
 -- nothing was sent
 sent-nothing : (a b : SlaveState) (shown n : ℕ) → n ≡ min shown (length a.outbox.waits) → b ≡ record a { outbox = b.outbox }
-    → ((sent waits : List Laid) → OutboxStandsAfter a.outbox sent waits → OutboxStandsAfter b.outbox (sent ++ first shown waits) (drop shown waits))
+    → ((page : ℕ) (sent waits : List Laid) → OutboxStandsAfter a.outbox page sent waits → OutboxStandsAfter b.outbox page (sent ++ first shown waits) (drop shown waits))
     → n ≡ 0 → PartsGoBy a b []
 sent-nothing a b shown n many rest moves none = (
   ap (λ (s : SlaveState). rings_of s.channels) rest,
@@ -132,13 +133,13 @@ sent-nothing a b shown n many rest moves none = (
       let sent = sent_laid d log in
       let n_is : 0 ≡ min shown (length wait) = sym none ∙ many ∙ ap (λ xs. min shown (length xs)) box.waiting in
       outbox-alone a b log rest
-      (subst (λ ys. OutboxStandsAfter b.outbox ys wait) (ap (λ ys. sent ++ ys) (take-min shown 0 wait n_is) ∙ append-nil sent)
-      (subst (λ ys. OutboxStandsAfter b.outbox (sent ++ first shown wait) ys) (drop-min shown 0 wait n_is) (moves sent wait box))) stands,
+      (subst (λ ys. OutboxStandsAfter b.outbox (page_at d log) ys wait) (ap (λ ys. sent ++ ys) (take-min shown 0 wait n_is) ∙ append-nil sent)
+      (subst (λ ys. OutboxStandsAfter b.outbox (page_at d log) (sent ++ first shown wait) ys) (drop-min shown 0 wait n_is) (moves (page_at d log) sent wait box))) stands,
 )
 
 -- so many of what waited, if these are any
 sends : (a b : SlaveState) (shown n : ℕ) → n ≡ min shown (length a.outbox.waits) → b ≡ record a { outbox = b.outbox } → a.acts < MOST_ACTS + PER_PACKET
-    → ((sent waits : List Laid) → OutboxStandsAfter a.outbox sent waits → OutboxStandsAfter b.outbox (sent ++ first shown waits) (drop shown waits))
+    → ((page : ℕ) (sent waits : List Laid) → OutboxStandsAfter a.outbox page sent waits → OutboxStandsAfter b.outbox page (sent ++ first shown waits) (drop shown waits))
     → GoesBy a b (sending n)
 sends a b shown n many rest fits moves =
     counted-sent a b n fits (ap (λ (s : SlaveState). s.acts) rest) (sent-stands a b shown n many rest moves) (sent-nothing a b shown n many rest moves)
@@ -152,9 +153,9 @@ shown-of v w o same fits rest =
     (shows w (record w { outbox = o }) refl rest (subst (λ (u : SlaveState). u.acts < MOST_ACTS + PER_PACKET) (sym same) fits))
 
 pub sent-of : (v w : SlaveState) (o : OutboxState) (n : ℕ) → w ≡ v → v.acts < MOST_ACTS + PER_PACKET → n ≡ min v.outbox.shown (length v.outbox.waits)
-    → ((sent waits : List Laid) → OutboxStandsAfter w.outbox sent waits → OutboxStandsAfter o (sent ++ first w.outbox.shown waits) (drop w.outbox.shown waits))
+    → ((page : ℕ) (sent waits : List Laid) → OutboxStandsAfter w.outbox page sent waits → OutboxStandsAfter o page (sent ++ first w.outbox.shown waits) (drop w.outbox.shown waits))
     → GoesBy v (record w { outbox = o }) (sending n)
 sent-of v w o n same fits many moves =
-    subst (λ (u : SlaveState). ((sent waits : List Laid) → OutboxStandsAfter u.outbox sent waits → OutboxStandsAfter o (sent ++ first u.outbox.shown waits) (drop u.outbox.shown waits))
+    subst (λ (u : SlaveState). ((page : ℕ) (sent waits : List Laid) → OutboxStandsAfter u.outbox page sent waits → OutboxStandsAfter o page (sent ++ first u.outbox.shown waits) (drop u.outbox.shown waits))
     → GoesBy v (record u { outbox = o }) (sending n)) (sym same)
     (λ moved. sends v (record v { outbox = o }) v.outbox.shown n many refl fits moved) moves

@@ -26,8 +26,10 @@ use Rattle.slave_channels.specs.Ordering.{starts_noted, starts_sent}
 use Rattle.slave_channels.specs.Calls.{CanStartAll, Ends, HasSome, Looks, OpensIfAny, StartsAt}
 use Rattle.slave_channels.specs.Each.{IsEach}
 use Rattle.slave.specs.Hearing.{KeepsLines}
+use Rattle.slave.proofs.PageLemmas.{page-by}
 use Rattle.slave.proofs.KeepingLemmas.{lines-each, lines-same}
 use Rattle.slave.specs.Inner.{AreSets, HasParts, LooksAtAll, OpensAll, OpensBeside, OpensInVain, SlaveStarted, StartsLists, started}
+use Rattle.slave.specs.Pages.{page_after, page_at}
 use Rattle.slave.specs.Log.{Act, Opened, deeds_of, entries_of, has_part, is_opening, is_out, late_in, opened, past_of, sent_laid, waits}
 use Rattle.slave.specs.Openings.{IsOpenedAfter, capacities_of, past_at}
 use Rattle.slave.specs.Standing.{IsAsLogged, logged, ChannelHas, HasEnded, IsOut, NoneRuns, SlaveHas, PartsStandAfter, SlaveState, number_of, AreParts, HasReady}
@@ -76,7 +78,9 @@ opened-rest d a b log at few none has rest as_many channels out as_logged = reco
   is_log = (none, has.is_log);
   profile = ap (λ (s : SessionState). s.profile) rest.session ∙ has.profile;
   session = subst (λ s. SessionStandsAfter s (past_of d log)) (sym rest.session) has.session;
-  outbox = subst (λ o. OutboxStandsAfter o (sent_laid d log) (waits d log)) (sym rest.outbox) has.outbox;
+  outbox =
+      subst (λ o. OutboxStandsAfter o (page_after d (past_of d log)) (sent_laid d log) (waits d log)) (sym rest.outbox)
+      (record { gone = has.outbox.gone; counter = has.outbox.counter; waiting = has.outbox.waiting; page_is = page-by d a.session (past_of d log) (rest.lists ∙ ap lists_of has.profile) has.session });
   channels = λ c ch there. subst (λ n. ChannelHas n (λ m. deeds_of d m c log) ch) (omega (arith, opened-more at log)) (channels c ch there);
   out = out;
   as_logged = as_logged;
@@ -291,7 +295,7 @@ looks-at-all d a b log looks has =
       is_log = has.is_log;
       profile = ap (λ (s : SessionState). s.profile) session ∙ has.profile;
       session = subst (λ s. SessionStandsAfter s (past_of d log)) (sym session) has.session;
-      outbox = subst (λ o. OutboxStandsAfter o (sent_laid d log) (waits d log)) (sym outbox) has.outbox;
+      outbox = subst (λ o. OutboxStandsAfter o (page_at d log) (sent_laid d log) (waits d log)) (sym outbox) has.outbox;
       channels = λ c ch at.
           let old = get_or a.channels c ch in
           let was = was-there a.channels b.channels c ch looks.channels.as_many at in
@@ -340,7 +344,7 @@ starts-all d a b log lists sets few are as_many can starts rest has =
       is_log = has.is_log;
       profile = ap (λ (s : SessionState). s.profile) session ∙ has.profile;
       session = subst (λ s. SessionStandsAfter s (past_of d log)) (sym session) has.session;
-      outbox = subst (λ o. OutboxStandsAfter o (sent_laid d log) (waits d log)) (sym outbox) has.outbox;
+      outbox = subst (λ o. OutboxStandsAfter o (page_at d log) (sent_laid d log) (waits d log)) (sym outbox) has.outbox;
       channels = λ c ch at.
           let old = get_or a.channels c ch in
           let was = was-there a.channels b.channels c ch starts.as_many at in

@@ -17,6 +17,7 @@ use Rattle.slave_outbox.specs.Steps.{Takes}
 use Rattle.slave_outbox.specs.declared.step.Step.{Step}
 use Rattle.slave_outbox.specs.declared.step.Step.TheVariants.{Full, Marked, Nothing, Skipped, Wrote}
 use Rattle.slave_outbox.specs.Outboxes.{Laid, LaysOut, OutboxState, together}
+use Rattle.slave.specs.Pages.{page_at}
 use Rattle.slave_outbox.specs.Outboxes.{StandsAfter as OutboxStandsAfter}
 use Rattle.slave_outbox.specs.Taking.{TakesItem}
 use Rattle.tasks.specs.Links.{LinkState, is_running, takes_orders}
@@ -144,8 +145,8 @@ pub record ChangesAt (a b : SlaveState) (c : ℕ) (x y : ChannelState) : Type 0 
 abbrev pub LaysBehind : SlaveState → SlaveState → Act → ℕ → IntakeState → Type 0
 LaysBehind a b act c i =
     (log : List Act) → ((m : ℕ) (x : Item) → act ≡ Took m c x → StandsAfter i (deeds_of a.session.profile m c log))
-    → OutboxStandsAfter a.outbox (sent_laid a.session.profile log) (waits a.session.profile log)
-    → OutboxStandsAfter b.outbox (sent_laid a.session.profile log) (waits a.session.profile log ++ laid_by a.session.profile act log)
+    → OutboxStandsAfter a.outbox (page_at a.session.profile log) (sent_laid a.session.profile log) (waits a.session.profile log)
+    → OutboxStandsAfter b.outbox (page_at a.session.profile log) (sent_laid a.session.profile log) (waits a.session.profile log ++ laid_by a.session.profile act log)
 
 -- the channels behind a change at one of them
 pub channels-changed : (n : ℕ) (f g : ℕ → ℕ → List Deed) (a b : SlaveState) (c : ℕ) (x y : ChannelState) → ChangesAt a b c x y
@@ -275,7 +276,7 @@ took-item a b c x y m i j item changes account part takes packets lays = (
           );
           profile = ap (λ (z : SessionState). z.profile) changes.session;
           session = subst (λ z. SessionStandsAfter z (past_of d log)) (sym changes.session) has.session;
-          outbox = subst (λ xs. OutboxStandsAfter b.outbox (sent_laid d log) xs) (sym (waits-took d m c item log))
+          outbox = subst (λ xs. OutboxStandsAfter b.outbox (page_at d log) (sent_laid d log) xs) (sym (waits-took d m c item log))
               (lays log (λ k z e. subst (λ q. StandsAfter i (deeds_of d q c log)) (number_of e) before) has.outbox);
           channels = channels-changed n (λ k q. deeds_of d q k log) (λ k q. deeds_of d q k (Took m c item ∷ log)) a b c x y changes
               (λ k q other. took-else m q c k (TookItem item) (deeds_of d q k log) (λ e z. other (sym z))) here has.channels;
@@ -306,7 +307,7 @@ took-none a b c x y P changes keeps outbox account known same = (
           is_log = has.is_log;
           profile = ap (λ (z : SessionState). z.profile) changes.session;
           session = subst (λ z. SessionStandsAfter z (past_of d log)) (sym changes.session) has.session;
-          outbox = subst (λ o. OutboxStandsAfter o (sent_laid d log) (waits d log)) (sym outbox) has.outbox;
+          outbox = subst (λ o. OutboxStandsAfter o (page_at d log) (sent_laid d log) (waits d log)) (sym outbox) has.outbox;
           channels = channels-changed (opened log) (λ k m. deeds_of d m k log) (λ k m. deeds_of d m k log) a b c x y changes (λ k m other. refl)
               (same (opened log) (λ m. deeds_of d m c log) (known log stands) (has.channels c x changes.was)) has.channels;
           out = out-changed (λ k q. is_out q k log) (λ k q. is_out q k log) a b c x y changes (λ k q other. refl) (out-kept (λ q. is_out q c log) x y keeps (has.out c x changes.was)) has.out;
@@ -326,15 +327,15 @@ lays-none : (a b : SlaveState) (act : Act) (c : ℕ) (i : IntakeState) → b.out
 lays-none a b act c i same none = λ log there stands.
     let d = a.session.profile in
     let all : waits d log ++ laid_by d act log ≡ waits d log = ap (λ xs. waits d log ++ xs) (none log there) ∙ append-nil (waits d log) in
-    subst (λ xs. OutboxStandsAfter b.outbox (sent_laid d log) xs) (sym all)
-    (subst (λ o. OutboxStandsAfter o (sent_laid d log) (waits d log)) (sym same) stands)
+    subst (λ xs. OutboxStandsAfter b.outbox (page_at d log) (sent_laid d log) xs) (sym all)
+    (subst (λ o. OutboxStandsAfter o (page_at d log) (sent_laid d log) (waits d log)) (sym same) stands)
 
 lays-some : (a b : SlaveState) (act : Act) (c : ℕ) (i : IntakeState) (xs : List Laid) → LaysOut a.outbox b.outbox xs
     → ((log : List Act) → ((m : ℕ) (x : Item) → act ≡ Took m c x → StandsAfter i (deeds_of a.session.profile m c log)) → laid_by a.session.profile act log ≡ xs) → LaysBehind a b act c i
 lays-some a b act c i xs lays some = λ log there stands.
     let d = a.session.profile in
-    subst (λ ys. OutboxStandsAfter b.outbox (sent_laid d log) (waits d log ++ ys)) (sym (some log there))
-    (laid-behind a.outbox b.outbox xs (sent_laid d log) (waits d log) lays stands)
+    subst (λ ys. OutboxStandsAfter b.outbox (page_at d log) (sent_laid d log) (waits d log ++ ys)) (sym (some log there))
+    (laid-behind a.outbox b.outbox (page_at d log) xs (sent_laid d log) (waits d log) lays stands)
 
 -- it is not spent, counted nothing yet, and showed nothing more
 pub record Counts (a b : SlaveState) : Type 0 where

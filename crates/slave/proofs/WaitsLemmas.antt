@@ -12,7 +12,7 @@ waits-took d m c (Sample s) log = refl
 waits-took d m c (Marker k) log = sym (append-nil (waits d log))
 
 -- behind what was laid out: that too
-pub laid-behind : (o p : OutboxState) (xs sent wait : List Laid) → LaysOut o p xs → StandsAfter o sent wait → StandsAfter p sent (wait ++ xs)
-laid-behind o p xs sent wait lays stands =
-    subst (λ z. StandsAfter z sent (wait ++ xs)) (sym lays)
-    (record { gone = stands.gone; counter = stands.counter; waiting = ap (λ ys. ys ++ xs) stands.waiting })
+pub laid-behind : (o p : OutboxState) (page : ℕ) (xs sent wait : List Laid) → LaysOut o p xs → StandsAfter o page sent wait → StandsAfter p page sent (wait ++ xs)
+laid-behind o p page xs sent wait lays stands =
+    subst (λ z. StandsAfter z page sent (wait ++ xs)) (sym lays)
+    (record { gone = stands.gone; counter = stands.counter; waiting = ap (λ ys. ys ++ xs) stands.waiting; page_is = stands.page_is })

@@ -13,9 +13,10 @@ use Rattle.session.specs.declared.profile.Profile.{Profile}
 use Rattle.slave_outbox.specs.Outboxes.{has_room}
 use Rattle.tasks.specs.Links.{CanStart}
 use Rattle.slave_channels.specs.Channels.{ChannelState, keeps_two, number_of}
-use Rattle.slave_channels.specs.Calls.{rings_of}
+use Rattle.slave_channels.specs.Calls.{CanStartAll, rings_of}
 use Rattle.slave.specs.Log.{Act, CameBack, Discarded, Heard, HungUp, Opened, Refused, Sent, Took}
 use Rattle.slave.specs.Log.{opened, past_of}
+use Rattle.slave.specs.Rings.{is_too_long}
 use Rattle.slave.specs.Standing.{IsStart, NoneRuns, SlaveStandsAfter, SlaveState}
 use Rattle.slave.specs.declared.limits.TheConstants.{MOST_ACTS}
 
@@ -66,6 +67,23 @@ pub record FindsNoPlaces (d : Profile) (past : Past) (packet : List ℕ) (s : Sl
   pub state_is : slice_get s.channels channel ≡ Some state
   pub cannot : ¬ CanStart state.link.newer (has_list set)
 
+-- at each event channel the starts of the lists that the packet starts find places at the task
+pub record FindsPlaces (d : Profile) (past : Past) (packet : List ℕ) (s : SlaveState)
+    : Type 0 where
+  pub sets : List ℕ
+  pub as_many : length sets ≡ length s.channels
+  pub are :
+      (c set l : ℕ) → slice_get sets c ≡ Some set → l < MAX_LISTS
+      → has_list set l ≡ (starts d past packet l && is_on d past c l)
+  pub can : CanStartAll sets s.channels
+
+-- the packet would start a list of which a sample is longer than its ring
+pub record StartsTooLong (d : Profile) (past : Past) (packet : List ℕ) : Type 0 where
+  pub list : ℕ
+  pub below : list < MAX_LISTS
+  pub starts_it : starts d past packet list ≡ true
+  pub long : is_too_long d past list ≡ true
+
 -- at an event channel of which a list is ready the parts of two measurements are kept
 pub record HasNoRoom (d : Profile) (past : Past) (s : SlaveState) : Type 0 where
   pub channel : ℕ
@@ -109,8 +127,9 @@ GoesBy a b acts =
 
 -- a packet was heard; before that a measurement may have been opened, if it is a start; and while
 -- lists run, a start that isn't refused with ERR_SEQUENCE is refused with ERR_CMD_BUSY, where its
--- orders find no places, or else not at all. While no list runs, ERR_CMD_BUSY comes before
--- ERR_MEMORY_OVERFLOW: the state behind the packet shows whether there was room
+-- orders find no places, else with ERR_MEMORY_OVERFLOW, where a sample is longer than its ring, or
+-- not at all. While no list runs, ERR_CMD_BUSY comes before ERR_MEMORY_OVERFLOW: the state behind
+-- the packet shows whether there was room; and no measurement is opened where a sample is too long
 pub record Hears (a b : SlaveState) (packet : List ℕ) (given : Given) : Type 0 where
   pub act : Act
   pub opening : List Act
@@ -123,11 +142,20 @@ pub record Hears (a b : SlaveState) (packet : List ℕ) (given : Given) : Type 0
       (log : List Act) → SlaveStandsAfter a.session.profile a log
       → ¬ NoneRuns (past_of a.session.profile log)
       → (code : ErrCode) → act ≡ Refused packet code → code ≢ Sequence
-      → (code ≡ CmdBusy)
-      × FindsNoPlaces a.session.profile (past_of a.session.profile log) packet b
+      → ((code ≡ CmdBusy)
+      × FindsNoPlaces a.session.profile (past_of a.session.profile log) packet b)
+      ⊎ ((code ≡ MemoryOverflow)
+      × StartsTooLong a.session.profile (past_of a.session.profile log) packet
+      × FindsPlaces a.session.profile (past_of a.session.profile log) packet b)
   pub when_idle :
       (log : List Act) → SlaveStandsAfter a.session.profile a log
       → NoneRuns (past_of a.session.profile log)
       → (code : ErrCode) → act ≡ Refused packet code
       → IsIdleRefusal a.session.profile (past_of a.session.profile log) a.number b code opening
+  pub too_long :
+      (log : List Act) → SlaveStandsAfter a.session.profile a log
+      → NoneRuns (past_of a.session.profile log)
+      → (code : ErrCode) → act ≡ Refused packet code
+      → StartsTooLong a.session.profile (past_of a.session.profile log) packet
+      → opened opening ≡ 0
   pub goes : GoesBy a b (act ∷ opening)

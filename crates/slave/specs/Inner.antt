@@ -52,7 +52,9 @@ use Rattle.slave.specs.Log.{Act, Heard}
 use Rattle.slave.specs.Log.{deeds_of, has_part, is_late, is_newest, is_return, late_in, opened}
 use Rattle.slave.specs.Log.{past_of, unsent_by, waits}
 use Rattle.slave.specs.Openings.{capacities_of}
+use Rattle.slave.specs.Pages.{page_over}
 use Rattle.slave.specs.Plans.{IsAsOpened, plan_of}
+use Rattle.slave.specs.Rings.{is_too_long}
 use Rattle.slave.specs.Standing.{HasEnded, JustOpened, NoneRuns, PartsStandAfter, SlaveState}
 use Rattle.slave.specs.Standing.{StandsBy}
 pub use Rattle.slave.specs.Standing.{Busy, Idle}
@@ -190,14 +192,41 @@ AreJustOut s =
     → (sampler : SamplerState FrameSend) × (went : TakeState)
     × (ch.link.newer ≡ Some (just_out sampler went))
 
--- so starts are refused
-abbrev pub IsBusy : SlaveState → SlaveState → ℕ → ErrCode → Type 0
-IsBusy a b lists code = (code ≡ CmdBusy) × WantsPlaces a.session lists b.channels
+-- of one of these lists a sample is longer than its ring
+pub record HasTooLong (d : Profile) (past : Past) (lists : ℕ) : Type 0 where
+  pub list : ℕ
+  pub below : list < MAX_LISTS
+  pub one : has_list lists list ≡ true
+  pub long : is_too_long d past list ≡ true
+
+abbrev pub OneIsTooLong : SessionState → ℕ → Type 0
+OneIsTooLong s lists = (past : Past) → SessionStandsAfter s past → HasTooLong s.profile past lists
+
+-- of none is it
+abbrev pub AreInRings : Profile → Past → ℕ → Type 0
+AreInRings d past lists =
+    (l : ℕ) → l < MAX_LISTS → has_list lists l ≡ true → is_too_long d past l ≡ false
+
+abbrev pub NoneIsTooLong : SessionState → ℕ → Type 0
+NoneIsTooLong s lists = (past : Past) → SessionStandsAfter s past → AreInRings s.profile past lists
+
+-- at each event channel starts of the lists find places
+pub record HasPlaces (s : SessionState) (lists : ℕ) (now : List ChannelState) : Type 0 where
+  pub sets : List ℕ
+  pub as_many : length sets ≡ length now
+  pub are : AreSets s lists sets
+  pub can : CanStartAll sets now
+
+-- so starts are refused while lists run
+abbrev pub IsRefusedAt : SessionState → List ChannelState → ℕ → ErrCode → Type 0
+IsRefusedAt s now lists code =
+    ((code ≡ CmdBusy) × WantsPlaces s lists now)
+    ⊎ ((code ≡ MemoryOverflow) × OneIsTooLong s lists × HasPlaces s lists now)
 
 -- beside the event channels, one measurement more was opened
 pub record OpensBeside (a b : SlaveState) : Type 0 where
   pub session : b.session ≡ a.session
-  pub outbox : b.outbox ≡ a.outbox
+  pub outbox : b.outbox ≡ record a.outbox { page = page_over a.session.store }
   pub plan : b.plan ≡ plan_of a.session.store
   pub lists : a.session.store.profile ≡ lists_of a.session.profile
   pub account : b.account ≡ a.account
@@ -273,6 +302,10 @@ pub record Prepares (most : ℕ) (a b : SlaveState) (lists : ℕ) : Type 0 where
       (log : List Act) → 32 * (1 + length opening + length log) ≤ MAX_TAKEN
       → PartsStandAfter a.session.profile a log
       → HasParts a.session.profile (opening ++ log) lists
+  pub in_rings :
+      (log : List Act) → 32 * (1 + length opening + length log) ≤ MAX_TAKEN
+      → PartsStandAfter a.session.profile a log
+      → AreInRings a.session.profile (past_of a.session.profile (opening ++ log)) lists
   pub goes :
       (log : List Act) → 32 * (1 + length opening + length log) ≤ MAX_TAKEN
       → PartsStandAfter a.session.profile a log
@@ -290,10 +323,13 @@ pub record StartsInVain (most : ℕ) (a b : SlaveState) (lists : ℕ) (code : Er
       → (code ≡ Sequence) ↔ HasOther a.session.profile (opening ++ log) lists
   pub places :
       (past : Past) → SessionStandsAfter a.session past → ¬ NoneRuns past → code ≢ Sequence
-      → IsBusy a b lists code
+      → IsRefusedAt a.session b.channels lists code
   pub when_idle :
       (past : Past) → SessionStandsAfter a.session past → NoneRuns past
       → IsIdleRefusal a.session.profile past a.number b code opening
+  pub unopened :
+      (past : Past) → SessionStandsAfter a.session past → NoneRuns past
+      → HasTooLong a.session.profile past lists → opened opening ≡ 0
   pub goes : PartsGoBy a b opening
 
 -- a packet was answered whose lists were started

@@ -1,6 +1,8 @@
 pub mod Log
 pub mod Plans
 pub mod Openings
+pub mod Pages
+pub mod Rings
 pub mod Returns
 pub mod Refusals
 pub mod Standing

@@ -30,12 +30,14 @@ use Rattle.slave_outbox.specs.Deeds.{passes, taken}
 use Rattle.daq_engine.specs.Order.{items_of}
 use Rattle.daq_engine.specs.Overload.{HasMarks}
 use Rattle.transmitter.specs.Items.{samples}
+use Rattle.slave.specs.Pages.{page_at}
 use Rattle.slave.specs.Log.{Act, CameBack, Discarded, Heard, HungUp, Opened, Refused, Sent, Took}
 use Rattle.slave.specs.Log.{deeds_of, entries_of, has_part, is_back, is_out, late_in, opened}
 use Rattle.slave.specs.Log.{past_of, sent_laid, waits, weight}
 use Rattle.slave_channels.specs.Accounts.{AccountStandsAfter, AccountState}
 use Rattle.slave.specs.Plans.{IsAsOpened, plan_at}
 use Rattle.slave.specs.Openings.{IsOpenedAfter, IsOpeningAfter, past_at}
+use Rattle.slave.specs.Rings.{is_too_long}
 use Rattle.slave.specs.Returns.{AreReturns, ends_in, returns_at}
 
 -- the session with the master, the packets that were laid out, the event channels, how the DAQ
@@ -92,7 +94,8 @@ JustOpened d (HungUp ∷ log) = ⊥
 JustOpened d (Discarded ∷ log) = ⊥
 
 -- a list that the packet starts stands as it did where the newest measurement was opened, which has
--- a part at the list's event channel; and where no list runs, it was opened just before
+-- a part at the list's event channel; its samples find room in its ring; and where no list runs,
+-- the measurement was opened just before
 pub record StartsWell (d : Profile) (log : List Act) (packet : List ℕ) : Type 0 where
   pub as_opened :
       (l : ℕ) → l < MAX_LISTS → starts d (past_of d log) packet l ≡ true → IsAsOpened d log l
@@ -100,6 +103,9 @@ pub record StartsWell (d : Profile) (log : List Act) (packet : List ℕ) : Type 
       (c l : ℕ) → c < length d.events.items → l < MAX_LISTS
       → starts d (past_of d log) packet l ≡ true → is_on d (past_of d log) c l ≡ true
       → has_part (opened log - 1) c log ≡ true
+  pub in_rings :
+      (l : ℕ) → l < MAX_LISTS → starts d (past_of d log) packet l ≡ true
+      → is_too_long d (past_of d log) l ≡ false
   pub in_one : IsStart d (past_of d log) packet → NoneRuns (past_of d log) → JustOpened d log
 
 -- where lists run, the packet would start one that doesn't stand as it did where the newest
@@ -215,7 +221,7 @@ pub record StandsBy (deeds : ℕ → ℕ → List Deed) (late : ℕ → ℕ → 
   pub is_log : IsLog d log
   pub profile : s.session.profile ≡ d
   pub session : SessionStandsAfter s.session (past_of d log)
-  pub outbox : OutboxStandsAfter s.outbox (sent_laid d log) (waits d log)
+  pub outbox : OutboxStandsAfter s.outbox (page_at d log) (sent_laid d log) (waits d log)
   pub channels :
       (c : ℕ) (ch : ChannelState) → slice_get s.channels c ≡ Some ch
       → ChannelHas (opened log) (deeds c) ch

@@ -6,7 +6,7 @@ use Rattle.xcp_base.specs.Samples.{SampleParts}
 use Rattle.xcp_base.specs.declared.item.Item.{Item}
 use Rattle.xcp_base.specs.declared.item.Item.TheVariants.{Sample}
 use Rattle.std.specs.List.{list_all}
-use Rattle.xcp_base.specs.declared.limits.TheConstants.{MAX_CHANNELS, MAX_DTO}
+use Rattle.xcp_base.specs.declared.limits.TheConstants.{MAX_CHANNELS}
 use Rattle.slave_outbox.specs.Steps.{HoldsNext, Passes}
 use Rattle.slave_outbox.specs.Taking.{HasNoRoom}
 use Rattle.slave_channels.specs.Channels.{ChannelState, ShareState}
@@ -34,7 +34,7 @@ most_taken = 2 * 1024 * MAX_CHANNELS
 -- the bytes of the longest frame: LEN and CTR, and a packet of the greater of MAX_CTO and MAX_DTO
 -- bytes
 abbrev pub least_peek : Profile → ℕ
-least_peek d = 4 + max d.max_cto MAX_DTO
+least_peek d = 4 + max d.max_cto d.max_dto
 
 -- the newest measurement's part at an event channel, if there is one
 abbrev pub newest_part : Option ChannelState → Option ShareState

@@ -39,8 +39,9 @@ impl Slave {
     /// A start is refused, beside what a session refuses, in this order: with ERR_SEQUENCE if a
     /// list isn't set up as it was when the measurement was opened; with ERR_CMD_BUSY if a task has
     /// no place for its orders, or two measurements of an event channel are out; with
-    /// ERR_MEMORY_OVERFLOW if there is no memory for a measurement, or, before or behind that, with
-    /// ERR_CMD_BUSY if a task is at its place just then. Then nothing is started.
+    /// ERR_MEMORY_OVERFLOW if a list that it starts has a sample that is longer than its ring, or
+    /// if there is no memory for a measurement, or, before or behind that, with ERR_CMD_BUSY if a
+    /// task is at its place just then. Then nothing is started.
     pub fn hear(&mut self, alloc: Global, packet: &[u8], clock: u32, memory: &[&[u8]]) -> bool
         ensures room { result ≡ may_hear self.old }
         ensures stays { result ≡ false → self.new ≡ self.old }

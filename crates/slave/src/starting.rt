@@ -2,13 +2,16 @@
 ghost use Rattle.std.specs.Prelude.{◌≡◌, ◌<◌, IfErr, OnErr, OnOk, length, true, false};
 ghost use Rattle.xcp_base.specs.declared.limits.TheConstants.{MAX_CHANNELS};
 ghost use Rattle.slave.specs.Hearing.{most_before};
-ghost use Rattle.slave.specs.Inner.{AreJustOut, AreSets, Busy, HasRoom, Idle, IsBusy};
-ghost use Rattle.slave.specs.Inner.{IsPlaceRefusal, IsSetOn, LooksAtAll, OpensAll, OpensInVain};
-ghost use Rattle.slave.specs.Inner.{OpensNone, Prepares};
+ghost use Rattle.slave.specs.Inner.{AreJustOut, AreSets, Busy, HasRoom, Idle};
+ghost use Rattle.slave.specs.Inner.{IsPlaceRefusal, IsRefusedAt, IsSetOn, LooksAtAll, OpensAll, OpensInVain};
+ghost use Rattle.slave.specs.Inner.{NoneIsTooLong, OpensNone, Prepares};
 ghost use Rattle.slave.specs.Inner.{StartsInVain, StartsLists, WantsRoom};
+ghost use Rattle.slave.specs.Pages.{page_over};
 ghost use Rattle.slave.specs.Plans.{plan_of};
 ghost use Rattle.slave_channels.specs.Calls.{HasSome};
+ghost use Rattle.slave_outbox.specs.Outboxes.{has_room};
 
+use crate::page::page_over;
 use crate::plan::Plan;
 use crate::slave::Slave;
 use std::alloc::Global;
@@ -33,7 +36,8 @@ impl Slave {
         ensures ok { OnOk result (Prepares most_before self.old self.new lists) }
         ensures err { IfErr result (StartsInVain most_before self.old self.new lists) }
         ensures session_stays { self.new.session ≡ self.old.session }
-        ensures outbox_stays { self.new.outbox ≡ self.old.outbox }
+        ensures room_stays { has_room self.new.outbox ≡ has_room self.old.outbox }
+        ensures shown_stays { self.new.outbox.shown ≡ self.old.outbox.shown }
         ensures acts_stay { self.new.acts ≡ self.old.acts }
         ensures next_stays { self.new.next ≡ self.old.next }
     {
@@ -64,7 +68,8 @@ impl Slave {
         ensures ok { OnOk result (Prepares most_before self.old self.new lists) }
         ensures err { IfErr result (StartsInVain most_before self.old self.new lists) }
         ensures session_stays { self.new.session ≡ self.old.session }
-        ensures outbox_stays { self.new.outbox ≡ self.old.outbox }
+        ensures room_stays { has_room self.new.outbox ≡ has_room self.old.outbox }
+        ensures shown_stays { self.new.outbox.shown ≡ self.old.outbox.shown }
         ensures acts_stay { self.new.acts ≡ self.old.acts }
         ensures next_stays { self.new.next ≡ self.old.next }
     {
@@ -72,19 +77,24 @@ impl Slave {
         self.start_new(alloc, lists)
     }
 
-    /// Opens a measurement, if there is room for one more, and orders the starts of these lists.
+    /// Opens a measurement, if there is room for one more, and for the samples of these lists in
+    /// their rings, and orders their starts.
     fn start_new(&mut self, alloc: Global, lists: ListSet) -> Result<(), ErrCode>
         requires idle { Idle self.old.session }
         requires some { HasSome lists }
         ensures ok { OnOk result (Prepares 1 self.old self.new lists) }
         ensures err { IfErr result (StartsInVain 1 self.old self.new lists) }
         ensures session_stays { self.new.session ≡ self.old.session }
-        ensures outbox_stays { self.new.outbox ≡ self.old.outbox }
+        ensures room_stays { has_room self.new.outbox ≡ has_room self.old.outbox }
+        ensures shown_stays { self.new.outbox.shown ≡ self.old.outbox.shown }
         ensures acts_stay { self.new.acts ≡ self.old.acts }
         ensures next_stays { self.new.next ≡ self.old.next }
     {
         if !self.can_open() {
             return Err(ErrCode::CmdBusy);
+        }
+        if self.has_too_long(lists) {
+            return Err(ErrCode::MemoryOverflow);
         }
         self.open_measurement(alloc)?;
         self.start_opened(lists);
@@ -100,12 +110,17 @@ impl Slave {
         self.channels.can_open(&ready[..self.channels.len()])
     }
 
-    /// Opens a measurement of all lists that are ready.
+    /// Opens a measurement of all lists that are ready, with a page for the longest of their
+    /// samples.
     fn open_measurement(&mut self, alloc: Global) -> Result<(), ErrCode>
         ensures ok { OnOk result (OpensAll self.old self.new) }
         ensures err { IfErr result (OpensNone self.old self.new) }
     {
         let Ok(plan) = Plan::of(alloc, self.session.store()) else {
+            return Err(ErrCode::MemoryOverflow);
+        };
+        let page = page_over(self.session.store());
+        let Ok(()) = self.outbox.set_page(alloc, page) else {
             return Err(ErrCode::MemoryOverflow);
         };
         self.plan = plan;
@@ -118,6 +133,7 @@ impl Slave {
     /// Opens the parts of a measurement at all event channels.
     fn open_channels(&mut self, alloc: Global) -> Result<(), HandFault>
         requires plan { self.old.plan ≡ plan_of self.old.session.store }
+        requires page { self.old.outbox.page ≡ page_over self.old.session.store }
         ensures ok { OnOk result (OpensAll self.old self.new) }
         ensures err { OnErr result (OpensInVain self.old self.new) }
     {
@@ -129,16 +145,20 @@ impl Slave {
             .open(alloc, self.session.store(), &self.caps, lists, number)
     }
 
-    /// Orders the starts of these lists, if all find places.
+    /// Orders the starts of these lists, if all find places, and their samples room in their rings.
     fn start(&mut self, lists: ListSet) -> Result<(), ErrCode>
         ensures ok { OnOk result (StartsLists self.old self.new lists) }
-        ensures busy { IfErr result (IsBusy self.old self.new lists) }
+        ensures rings { OnOk result (NoneIsTooLong self.old.session lists) }
+        ensures refused { IfErr result (IsRefusedAt self.old.session self.new.channels lists) }
         ensures err { OnErr result (LooksAtAll self.old self.new) }
     {
         let sets = self.sets_of(lists);
         let sets = &sets[..self.channels.len()];
         if !self.channels.can_start(sets) {
             return Err(ErrCode::CmdBusy);
+        }
+        if self.has_too_long(lists) {
+            return Err(ErrCode::MemoryOverflow);
         }
         self.channels.start_checked(sets);
         Ok(())

@@ -5,7 +5,6 @@ ghost use Rattle.slave.specs.Taking.{least_peek};
 ghost use Rattle.slave_outbox.specs.Outboxes.{bytes_in};
 
 use crate::slave::Slave;
-use xcp_base::limits::MAX_DTO;
 
 impl Slave {
     /// Whether a master is connected.
@@ -35,6 +34,6 @@ impl Slave {
     pub fn least_peek(&self) -> usize
         ensures { result ≡ least_peek self.now.session.profile }
     {
-        4 + (self.session.max_cto() as usize).max(MAX_DTO)
+        4 + (self.session.max_cto() as usize).max(self.session.max_dto() as usize)
     }
 }

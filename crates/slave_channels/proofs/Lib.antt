@@ -10,3 +10,4 @@ pub mod RowLemmas
 pub mod SumsLemmas
 pub mod AccountLemmas
 pub mod SumLemmas
+pub mod RoomLemmas

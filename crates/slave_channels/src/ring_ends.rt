@@ -1,19 +1,25 @@
 //! An event channel's part of a measurement gets a ring of its own, and a sampler.
-ghost use Rattle.std.specs.Prelude.{IfOk};
+ghost use Rattle.std.specs.Prelude.{◌≤◌, ◌/◌, IfOk};
+ghost use Rattle.frame_ring.specs.Ends.{limit_of};
 ghost use Rattle.frame_ring.specs.States.{take_state};
 ghost use Rattle.sampler.specs.History.{Opening};
+ghost use Rattle.frame_ring.specs.declared.block.TheConstants.{BLOCK};
+ghost use Rattle.frame_ring.specs.declared.limits.TheConstants.{MAX_FRAME_RING, MIN_ROOM};
+ghost use Rattle.sampler.specs.Limits.{AllKeepTo, KeepsTo};
 ghost use Rattle.slave_channels.specs.Channels.{IsPartAt};
 
-use daq_engine::sampler_over;
+use copy_plan::CopyPlan;
+use daq_engine::{plans_of, sampler_over};
 use daq_store::Store;
-use frame_ring::limits::MIN_ROOM;
-use frame_ring::{FrameRing, FrameSend, FrameTake};
+use frame_ring::limits::{MAX_FRAME_RING, MIN_ROOM};
+use frame_ring::{BLOCK, FrameRing, FrameSend, FrameTake, sample_blocks};
 use sampler::Sampler;
 use std::alloc::{AllocError, Global};
 use xcp_base::ChannelId;
 
 /// The sampler of an event channel over the send end of a new ring of `cap` bytes, and the ring's
-/// take end. The sampler has the DAQ lists of the channel that are ready in the store.
+/// take end. The sampler has the DAQ lists of the channel that are ready in the store, and the send
+/// end makes the longest of their samples.
 pub(crate) fn open_ends(
     alloc: Global,
     store: &Store,
@@ -23,9 +29,35 @@ pub(crate) fn open_ends(
     ensures opened { IfOk result (λ ends. (opening : Opening)
         × IsPartAt store.now c cap ends.0 (take_state ends.1) opening) }
 {
-    let Ok((send, take)) = FrameRing::new(alloc, cap, MIN_ROOM) else {
+    let plans = plans_of(alloc, store, c)?;
+    let room = room_for(plans.as_slice());
+    let Ok((send, take)) = FrameRing::new(alloc, cap, room) else {
         return Err(AllocError);
     };
-    let sampler = sampler_over(alloc, store, c, send)?;
-    Ok((sampler, take))
+    Ok((sampler_over(store, c, plans, send), take))
+}
+
+/// The blocks of the longest record of a sample of these plans, and `MIN_ROOM` at least.
+fn room_for(plans: &[CopyPlan]) -> usize
+    ensures least { MIN_ROOM ≤ result }
+    ensures few { result ≤ MAX_FRAME_RING / BLOCK }
+    ensures keep { AllKeepTo (limit_of result) plans.now }
+{
+    let mut room = MIN_ROOM;
+    for i in 0..plans.len() {
+        room = room_with(room, &plans[i]);
+    }
+    room
+}
+
+/// So many blocks, or those of the record of a sample of this plan, if these are more.
+fn room_with(room: usize, plan: &CopyPlan) -> usize
+    requires few { room ≤ MAX_FRAME_RING / BLOCK }
+    ensures least { room ≤ result }
+    ensures few { result ≤ MAX_FRAME_RING / BLOCK }
+    ensures keeps { KeepsTo (limit_of result) plan.now }
+{
+    // for the proof: what a plan keeps to
+    let _ = plan.odts();
+    room.max(sample_blocks(plan.frames_len()))
 }

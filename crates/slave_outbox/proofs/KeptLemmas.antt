@@ -11,10 +11,10 @@ use Rattle.frame_ring.proofs.FrameLemmas.{unnumbered-append}
 use Rattle.frame_page.specs.Laid.{Laid as Kept, behind, blocks_of}
 use Rattle.frame_page.specs.Laid.{packets_in as packets_kept}
 use Rattle.frame_page.proofs.UnitLemmas.{drop_front}
-use Rattle.slave_outbox.specs.Inner.{AreTight, AreTightBehind, HaveSome, laid_of, replies_kept, sample_bytes}
+use Rattle.slave_outbox.specs.Inner.{AreShort, AreTight, AreTightBehind, HaveSome, laid_of, replies_kept, sample_bytes}
 use Rattle.slave_outbox.specs.Origins.{is_reply}
 use Rattle.slave_outbox.specs.Outboxes.{Laid, origins_in, packets_in, replies_in, together}
-use Rattle.slave_outbox.specs.declared.limits.TheConstants.{LONGEST}
+use Rattle.slave_outbox.specs.declared.limits.TheConstants.{MAX_REPLY}
 use Rattle.slave_outbox.specs.declared.origin.Origin.{Origin}
 use Rattle.slave_outbox.proofs.LaidLemmas.{drop-map, many_together, packets_in-append, packets_together}
 
@@ -122,13 +122,26 @@ pub some_push : (xs : List (Kept Origin)) (x : Kept Origin) → HaveSome xs → 
 some_push [] x some one = (one, tt)
 some_push (y ∷ xs) x some one = (some.0, some_push xs x some.1 one)
 
-tight_more : (xs : List (Kept Origin)) (x : Kept Origin) → AreTight xs → x.blocks ≤ LONGEST → 5 * x.blocks ≤ 3 * length (unnumbered x.packets) → AreTight (xs ++ x ∷ [])
-tight_more [] x tight short few = (short, few, tt)
-tight_more (y ∷ xs) x tight short few = (tight.0, tight.1, tight_more xs x tight.2 short few)
+tight_more : (m : ℕ) (xs : List (Kept Origin)) (x : Kept Origin) → AreTight m xs → x.blocks ≤ m → 5 * x.blocks ≤ 3 * length (unnumbered x.packets) → AreTight m (xs ++ x ∷ [])
+tight_more m [] x tight short few = (short, few, tt)
+tight_more m (y ∷ xs) x tight short few = (tight.0, tight.1, tight_more m xs x tight.2 short few)
 
-pub tight_push : (xs : List (Kept Origin)) (x : Kept Origin) → AreTightBehind xs → x.blocks ≤ LONGEST → 5 * x.blocks ≤ 3 * length (unnumbered x.packets) → AreTightBehind (xs ++ x ∷ [])
-tight_push [] x tight short few = (short, tt)
-tight_push (y ∷ xs) x tight short few = (tight.0, tight_more xs x tight.1 short few)
+pub tight_push : (m : ℕ) (xs : List (Kept Origin)) (x : Kept Origin) → AreTightBehind m xs → x.blocks ≤ m → 5 * x.blocks ≤ 3 * length (unnumbered x.packets) → AreTightBehind m (xs ++ x ∷ [])
+tight_push m [] x tight short few = (short, tt)
+tight_push m (y ∷ xs) x tight short few = (tight.0, tight_more m xs x tight.1 short few)
+
+tight_under : (m n : ℕ) (xs : List (Kept Origin)) → m ≤ n → AreTight m xs → AreTight n xs
+tight_under m n [] more tight = tt
+tight_under m n (x ∷ xs) more tight = (omega (arith, tight.0, more), tight.1, tight_under m n xs more tight.2)
+
+-- fewer blocks than so many are fewer than more
+pub tight_wider : (m n : ℕ) (xs : List (Kept Origin)) → m ≤ n → AreTightBehind m xs → AreTightBehind n xs
+tight_wider m n [] more tight = tt
+tight_wider m n (x ∷ xs) more tight = (omega (arith, tight.0, more), tight_under m n xs more tight.1)
+
+pub short_push : (xs : List (Kept Origin)) (x : Kept Origin) → AreShort xs → (is_reply x.origin ≡ true → length (unnumbered x.packets) ≤ MAX_REPLY) → AreShort (xs ++ x ∷ [])
+short_push [] x short one = (one, tt)
+short_push (y ∷ xs) x short one = (short.0, short_push xs x short.1 one)
 
 -- behind the first of the packets
 pub some_behind : (n : ℕ) (xs : List (Kept Origin)) → HaveSome xs → HaveSome (behind n xs)
@@ -141,20 +154,20 @@ some_behind n (x ∷ xs) some =
           (omega (arith, length-drop n x.packets, le_no (length x.packets) n short), some.1)
     ]
 
-tight_later : (n : ℕ) (xs : List (Kept Origin)) → AreTight xs → AreTightBehind (behind n xs)
-tight_later n [] tight = tt
-tight_later n (x ∷ xs) tight =
+tight_later : (m n : ℕ) (xs : List (Kept Origin)) → AreTight m xs → AreTightBehind m (behind n xs)
+tight_later m n [] tight = tt
+tight_later m n (x ∷ xs) tight =
     elim (whether (nat_le (length x.packets) n)) [
-      | inl past ↦ subst (λ (b : Bool). AreTightBehind (if b then behind (n - length x.packets) xs else record x { packets = drop n x.packets } ∷ xs)) (sym past) (tight_later (n - length x.packets) xs tight.2)
-      | inr short ↦ subst (λ (b : Bool). AreTightBehind (if b then behind (n - length x.packets) xs else record x { packets = drop n x.packets } ∷ xs)) (sym short) (tight.0, tight.2)
+      | inl past ↦ subst (λ (b : Bool). AreTightBehind m (if b then behind (n - length x.packets) xs else record x { packets = drop n x.packets } ∷ xs)) (sym past) (tight_later m (n - length x.packets) xs tight.2)
+      | inr short ↦ subst (λ (b : Bool). AreTightBehind m (if b then behind (n - length x.packets) xs else record x { packets = drop n x.packets } ∷ xs)) (sym short) (tight.0, tight.2)
     ]
 
-pub tight_behind : (n : ℕ) (xs : List (Kept Origin)) → AreTightBehind xs → AreTightBehind (behind n xs)
-tight_behind n [] tight = tt
-tight_behind n (x ∷ xs) tight =
+pub tight_behind : (m n : ℕ) (xs : List (Kept Origin)) → AreTightBehind m xs → AreTightBehind m (behind n xs)
+tight_behind m n [] tight = tt
+tight_behind m n (x ∷ xs) tight =
     elim (whether (nat_le (length x.packets) n)) [
-      | inl past ↦ subst (λ (b : Bool). AreTightBehind (if b then behind (n - length x.packets) xs else record x { packets = drop n x.packets } ∷ xs)) (sym past) (tight_later (n - length x.packets) xs tight.1)
-      | inr short ↦ subst (λ (b : Bool). AreTightBehind (if b then behind (n - length x.packets) xs else record x { packets = drop n x.packets } ∷ xs)) (sym short) tight
+      | inl past ↦ subst (λ (b : Bool). AreTightBehind m (if b then behind (n - length x.packets) xs else record x { packets = drop n x.packets } ∷ xs)) (sym past) (tight_later m (n - length x.packets) xs tight.1)
+      | inr short ↦ subst (λ (b : Bool). AreTightBehind m (if b then behind (n - length x.packets) xs else record x { packets = drop n x.packets } ∷ xs)) (sym short) tight
     ]
 
 pub bytes_behind : (n : ℕ) (xs : List (Kept Origin)) → length (unnumbered (packets_kept xs)) ≡ length (unnumbered (take n (packets_kept xs))) + length (unnumbered (packets_kept (behind n xs)))
@@ -164,15 +177,15 @@ bytes_behind n xs =
     ∙ ap (λ qs. length (unnumbered (take n ps)) + length (unnumbered qs)) (sym (packets_behind n xs))
 
 -- so many bytes wait at least for the blocks and places that are taken up
-tight_bound : (xs : List (Kept Origin)) → AreTight xs → 5 * blocks_of xs ≤ 3 * length (unnumbered (packets_kept xs))
-tight_bound [] tight = omega arith
-tight_bound (x ∷ xs) tight =
-    omega (arith, tight.1, tight_bound xs tight.2, ap length (unnumbered-append x.packets (packets_kept xs)), length-append (unnumbered x.packets) (unnumbered (packets_kept xs)))
+tight_bound : (m : ℕ) (xs : List (Kept Origin)) → AreTight m xs → 5 * blocks_of xs ≤ 3 * length (unnumbered (packets_kept xs))
+tight_bound m [] tight = omega arith
+tight_bound m (x ∷ xs) tight =
+    omega (arith, tight.1, tight_bound m xs tight.2, ap length (unnumbered-append x.packets (packets_kept xs)), length-append (unnumbered x.packets) (unnumbered (packets_kept xs)))
 
-pub blocks_bound : (xs : List (Kept Origin)) → AreTightBehind xs → 5 * blocks_of xs ≤ 5 * LONGEST + 3 * length (unnumbered (packets_kept xs))
-blocks_bound [] tight = omega arith
-blocks_bound (x ∷ xs) tight =
-    omega (arith, tight.0, tight_bound xs tight.1, ap length (unnumbered-append x.packets (packets_kept xs)), length-append (unnumbered x.packets) (unnumbered (packets_kept xs)))
+pub blocks_bound : (m : ℕ) (xs : List (Kept Origin)) → AreTightBehind m xs → 5 * blocks_of xs ≤ 5 * m + 3 * length (unnumbered (packets_kept xs))
+blocks_bound m [] tight = omega arith
+blocks_bound m (x ∷ xs) tight =
+    omega (arith, tight.0, tight_bound m xs tight.1, ap length (unnumbered-append x.packets (packets_kept xs)), length-append (unnumbered x.packets) (unnumbered (packets_kept xs)))
 
 pub some_bytes : (qs : List (List ℕ)) → 0 < length qs → 4 ≤ length (unnumbered qs)
 some_bytes [] some = absurd (omega (arith, some))
@@ -261,6 +274,27 @@ samples_behind n (x ∷ xs) =
           subst (λ (b : Bool). sample_bytes (if b then behind (n - length x.packets) xs else record x { packets = drop n x.packets } ∷ xs) ≤ sample_bytes (x ∷ xs)) (sym short)
           (omega (arith, cut_sample x.origin n x.packets))
     ]
+
+pub short_behind : (n : ℕ) (xs : List (Kept Origin)) → AreShort xs → AreShort (behind n xs)
+short_behind n [] short = tt
+short_behind n (x ∷ xs) short =
+    elim (whether (nat_le (length x.packets) n)) [
+      | inl past ↦ subst (λ (b : Bool). AreShort (if b then behind (n - length x.packets) xs else record x { packets = drop n x.packets } ∷ xs)) (sym past) (short_behind (n - length x.packets) xs short.1)
+      | inr more ↦
+          subst (λ (b : Bool). AreShort (if b then behind (n - length x.packets) xs else record x { packets = drop n x.packets } ∷ xs)) (sym more)
+          (λ reply. omega (arith, cut_bytes n x.packets, short.0 reply), short.1)
+    ]
+
+-- all are those of samples, and of replies, which are short
+pub bytes_bound : (xs : List (Kept Origin)) → AreShort xs → length (unnumbered (packets_kept xs)) ≤ sample_bytes xs + MAX_REPLY * replies_kept xs
+bytes_bound [] short = omega arith
+bytes_bound (x ∷ xs) short =
+    let own : length (unnumbered x.packets) ≤ (if is_reply x.origin then 0 else length (unnumbered x.packets)) + MAX_REPLY * (if is_reply x.origin then 1 else 0) =
+    elim (whether (is_reply x.origin)) [
+      | inl reply ↦ subst (λ (t : Bool). length (unnumbered x.packets) ≤ (if t then 0 else length (unnumbered x.packets)) + MAX_REPLY * (if t then 1 else 0)) (sym reply) (omega (arith, short.0 reply))
+      | inr sample ↦ subst (λ (t : Bool). length (unnumbered x.packets) ≤ (if t then 0 else length (unnumbered x.packets)) + MAX_REPLY * (if t then 1 else 0)) (sym sample) (omega arith)
+    ] in
+    omega (arith, own, bytes_bound xs short.1, ap length (unnumbered-append x.packets (packets_kept xs)), length-append (unnumbered x.packets) (unnumbered (packets_kept xs)))
 
 -- they are no more than all
 pub samples_within : (xs : List (Kept Origin)) → sample_bytes xs ≤ length (unnumbered (packets_kept xs))

@@ -43,38 +43,41 @@ whole_text sent more =
     ap (λ k. text 0 (packets_in sent) ++ text k (packets_in more)) from_0 ∙ sym (text-append 0 (packets_in sent) (packets_in more)) ∙ ap (text 0) (sym (packets_in-append sent more))
 
 -- what is laid out behind what waits waits too
-pub stands-laid : (a b : OutboxState) (xs sent waits : List Laid) → LaysOut a b xs → StandsAfter a sent waits → StandsAfter b sent (waits ++ xs)
-stands-laid a b xs sent waits lays s = record {
+pub stands-laid : (a b : OutboxState) (page : ℕ) (xs sent waits : List Laid) → LaysOut a b xs → StandsAfter a page sent waits → StandsAfter b page sent (waits ++ xs)
+stands-laid a b page xs sent waits lays s = record {
   gone = ap (λ (o : OutboxState). o.sent) lays ∙ s.gone;
   counter = ap (λ (o : OutboxState). o.counter) lays ∙ s.counter;
   waiting = ap (λ (o : OutboxState). o.waits) lays ∙ ap (λ ys. ys ++ xs) s.waiting;
+  page_is = ap (λ (o : OutboxState). o.page) lays ∙ s.page_is;
 }
 
 mod-mod : (n : ℕ) → n % 65536 % 65536 ≡ n % 65536
 mod-mod n = omega arith
 
 -- the frames of what was sent, and the first that wait, as they are numbered
-pub more_text : (a : OutboxState) (n : ℕ) (sent waits : List Laid) → StandsAfter a sent waits → text 0 (packets_in sent) ++ text a.counter (packets_in (take n a.waits)) ≡ text 0 (packets_in (sent ++ take n waits))
-more_text a n sent waits s =
+pub more_text : (a : OutboxState) (page n : ℕ) (sent waits : List Laid) → StandsAfter a page sent waits → text 0 (packets_in sent) ++ text a.counter (packets_in (take n a.waits)) ≡ text 0 (packets_in (sent ++ take n waits))
+more_text a page n sent waits s =
     ap (λ xs. text 0 (packets_in sent) ++ text a.counter (packets_in (take n xs))) s.waiting
     ∙ ap (λ xs. text 0 (packets_in sent) ++ xs) (text-mod a.counter (length sent) (packets_in (take n waits)) (ap (λ k. k % 65536) s.counter ∙ mod-mod (length sent)))
     ∙ whole_text sent (take n waits)
 
 -- what goes off the front of what waits is sent
-pub stands-sent : (a b : OutboxState) (n : ℕ) (sent waits : List Laid) → b.sent ≡ a.sent ++ text a.counter (packets_in (take n a.waits)) → b.counter ≡ (a.counter + n) % 65536 → b.waits ≡ drop n a.waits
-    → n ≤ length a.waits → StandsAfter a sent waits → StandsAfter b (sent ++ take n waits) (drop n waits)
-stands-sent a b n sent waits gone counter left few s =
+pub stands-sent : (a b : OutboxState) (page n : ℕ) (sent waits : List Laid) → b.sent ≡ a.sent ++ text a.counter (packets_in (take n a.waits)) → b.counter ≡ (a.counter + n) % 65536 → b.waits ≡ drop n a.waits
+    → n ≤ length a.waits → b.page ≡ a.page → StandsAfter a page sent waits → StandsAfter b page (sent ++ take n waits) (drop n waits)
+stands-sent a b page n sent waits gone counter left few same s =
     let many : length (take n waits) ≡ n = length-take-le n waits (omega (arith, few, ap length s.waiting)) in
     record {
-      gone = gone ∙ ap (λ xs. xs ++ text a.counter (packets_in (take n a.waits))) s.gone ∙ more_text a n sent waits s;
+      gone = gone ∙ ap (λ xs. xs ++ text a.counter (packets_in (take n a.waits))) s.gone ∙ more_text a page n sent waits s;
       counter = omega (arith, counter, s.counter, many, length-append sent (take n waits));
       waiting = left ∙ ap (drop n) s.waiting;
+      page_is = same ∙ s.page_is;
     }
 
 -- what waits is thrown away
-pub stands-thrown : (a b : OutboxState) (sent waits : List Laid) → b.sent ≡ a.sent → b.counter ≡ a.counter → b.waits ≡ [] → StandsAfter a sent waits → StandsAfter b sent []
-stands-thrown a b sent waits gone counter none s = record {
+pub stands-thrown : (a b : OutboxState) (page : ℕ) (sent waits : List Laid) → b.sent ≡ a.sent → b.counter ≡ a.counter → b.waits ≡ [] → b.page ≡ a.page → StandsAfter a page sent waits → StandsAfter b page sent []
+stands-thrown a b page sent waits gone counter none same s = record {
   gone = gone ∙ s.gone;
   counter = counter ∙ s.counter;
   waiting = none;
+  page_is = same ∙ s.page_is;
 }

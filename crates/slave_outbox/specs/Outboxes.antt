@@ -1,11 +1,10 @@
 -- What contracts see of an outbox, and what it stands after.
-use Rattle.std.specs.Prelude.{◌≡◌, ℕ, ◌+◌, ◌%◌, ◌&&◌, Bool, true, false, if◌then◌else◌}
-use Rattle.std.specs.Prelude.{nat_le, nat_lt, count_by}
+use Rattle.std.specs.Prelude.{◌≡◌, ℕ, ◌%◌, Bool, true, false, if◌then◌else◌, nat_lt, count_by}
 use Rattle.std.specs.Prelude.{List, [], ◌∷◌, ◌++◌, length, map}
 use Rattle.frame_writer.specs.Frame.{text, unnumbered}
 use Rattle.frame_ring.specs.Sending.{FrontFits}
 use Rattle.slave_outbox.specs.Origins.{is_reply}
-use Rattle.slave_outbox.specs.declared.limits.TheConstants.{MAX_REPLIES, MAX_REPLY, MOST}
+use Rattle.slave_outbox.specs.declared.limits.TheConstants.{MAX_REPLIES}
 use Rattle.slave_outbox.specs.declared.origin.Origin.{Origin}
 
 -- a packet that was laid out: where it is from, and whether it is the last of those that were laid
@@ -16,12 +15,13 @@ pub record Laid : Type 0 where
   pub last : Bool
 
 -- the bytes that were sent, CTR of the next frame that is sent, the packets that wait, the oldest
--- first, and how many of them the last peek showed
+-- first, how many of them the last peek showed, and up to how many bytes samples are laid out
 pub record OutboxState : Type 0 where
   pub sent : List ℕ
   pub counter : ℕ
   pub waits : List Laid
   pub shown : ℕ
+  pub page : ℕ
 
 -- all of these, in order
 abbrev pub packets_in : List Laid → List (List ℕ)
@@ -50,16 +50,17 @@ replies_in laid = count_by is_reply (origins_in laid)
 abbrev pub bytes_in : List Laid → ℕ
 bytes_in laid = length (unnumbered (packets_in laid))
 
--- an outbox stands after these: so much was laid out and sent, in order, and so much waits
-pub record StandsAfter (o : OutboxState) (sent waits : List Laid) : Type 0 where
+-- an outbox stands after these: so much was laid out and sent, in order, and so much waits; and
+-- samples are laid out up to so many bytes
+pub record StandsAfter (o : OutboxState) (page : ℕ) (sent waits : List Laid) : Type 0 where
   pub gone : o.sent ≡ text 0 (packets_in sent)
   pub counter : o.counter ≡ length sent % 65536
   pub waiting : o.waits ≡ waits
+  pub page_is : o.page ≡ page
 
 -- a reply finds room
 abbrev pub has_room : OutboxState → Bool
-has_room o =
-    nat_lt (replies_in o.waits) MAX_REPLIES && nat_le (bytes_in o.waits + MAX_REPLY) MOST
+has_room o = nat_lt (replies_in o.waits) MAX_REPLIES
 
 -- something waits
 abbrev pub has_waiting : OutboxState → Bool

@@ -10,16 +10,15 @@ use Rattle.slave_outbox.specs.declared.step.Step.TheVariants.{Full, Marked, Noth
 use Rattle.slave_outbox.specs.declared.step.Step.TheVariants.{Wrote}
 use Rattle.frame_writer.specs.Frame.{unnumbered}
 use Rattle.slave_outbox.specs.Outboxes.{LaysOut, OutboxState, bytes_in, together}
-use Rattle.slave_outbox.specs.declared.limits.TheConstants.{PAGE}
 use Rattle.slave_outbox.specs.declared.origin.Origin.TheVariants as origin
 
 -- frames of so many bytes would end behind the page
 abbrev pub HasNoRoom : OutboxState → ℕ → Type 0
-HasNoRoom o len = PAGE < bytes_in o.waits + len
+HasNoRoom o len = o.page < bytes_in o.waits + len
 
 -- the frames of a sample end within it
 abbrev pub FindsRoom : OutboxState → SampleParts → Type 0
-FindsRoom o s = bytes_in o.waits + length (unnumbered s.packets) ≤ PAGE
+FindsRoom o s = bytes_in o.waits + length (unnumbered s.packets) ≤ o.page
 
 -- what became of the next item: it is let go, or laid out as a sample that event channel c has in
 -- measurement m

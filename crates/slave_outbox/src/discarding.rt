@@ -1,5 +1,5 @@
 //! What waits is thrown away.
-ghost use Rattle.std.specs.Prelude.{◌≡◌, [], List};
+ghost use Rattle.std.specs.Prelude.{◌≡◌, ℕ, [], List};
 ghost use Rattle.slave_outbox.specs.Outboxes.{Laid, StandsAfter};
 
 use crate::outbox::{NONE_SHOWN, Outbox};
@@ -8,8 +8,8 @@ impl Outbox {
     /// Throws away what waits: it is never sent. The next frame has the CTR behind that of the last
     /// frame that was sent.
     pub fn discard(&mut self)
-        ensures stands { (sent waits : List Laid) → StandsAfter self.old sent waits
-            → StandsAfter self.new sent [] }
+        ensures stands { (page : ℕ) (sent waits : List Laid)
+            → StandsAfter self.old page sent waits → StandsAfter self.new page sent [] }
         ensures none { self.new.waits ≡ [] }
         ensures none_shown { self.new.shown ≡ 0 }
     {

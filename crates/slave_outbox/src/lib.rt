@@ -17,7 +17,7 @@ mod step;
 mod taking;
 
 pub use intake::Intake;
-pub use limits::{MAX_REPLIES, PAGE};
+pub use limits::{MAX_PAGE, MAX_REPLIES, PAGE};
 pub use origin::Origin;
 pub use outbox::Outbox;
 pub use step::Step;

@@ -1,10 +1,16 @@
 //! The limits of an outbox.
-use frame_page::REPLY_BLOCKS;
-use frame_ring::BLOCK;
-use xcp_base::limits::MAX_CTO;
+ghost use Rattle.std.specs.Prelude.{◌≡◌, ◌≤◌};
+ghost use Rattle.slave_outbox.specs.Inner.{page_blocks, page_places};
 
-/// Samples are laid out up to so many bytes: what fits one datagram.
-pub const PAGE: usize = 1400;
+use frame_page::REPLY_BLOCKS;
+use frame_ring::sample_blocks;
+use xcp_base::limits::{MAX_CTO, MAX_ODTS_IN_ALL, MAX_PACKET};
+
+/// The bytes of samples up to which a measurement lays them out at least.
+pub const PAGE: usize = 8192;
+
+/// The most bytes that a page may have: those of the frames of the longest sample.
+pub const MAX_PAGE: usize = MAX_ODTS_IN_ALL * (4 + MAX_PACKET);
 
 /// The most replies that wait.
 pub const MAX_REPLIES: usize = 16;
@@ -12,16 +18,24 @@ pub const MAX_REPLIES: usize = 16;
 /// The frame of a reply at its longest, whatever MAX_CTO is: LEN, CTR and the packet.
 pub(crate) const MAX_REPLY: usize = 4 + MAX_CTO;
 
-/// What waits is never more: samples up to the page's end, and replies behind them.
-pub(crate) const MOST: usize = PAGE + MAX_REPLIES * MAX_REPLY;
+/// The bytes that wait beside samples are never more.
+pub(crate) const REPLIES: usize = MAX_REPLIES * MAX_REPLY;
 
-/// The blocks of the longest record that finds room: its head has two.
-pub(crate) const LONGEST: usize = 2 + (PAGE + BLOCK - 1) / BLOCK;
+/// The blocks for a page of so many bytes, and for replies: a sample or a reply takes up three for
+/// each five of its bytes at most. There is room beside for one of which only the last frame waits,
+/// and for one more reply.
+pub(crate) fn page_blocks(room: usize) -> usize
+    requires limit { room ≤ MAX_PAGE }
+    ensures value { result ≡ page_blocks room }
+{
+    (3 * (room + REPLIES) + 4) / 5 + sample_blocks(room) + 2 * REPLY_BLOCKS
+}
 
-/// The blocks of the page: a sample or a reply takes up three for each five of its bytes at most,
-/// also one of which only the last frame waits; and one more reply finds room.
-pub(crate) const BLOCKS: usize = (3 * MOST + 4) / 5 + LONGEST + REPLY_BLOCKS;
-
-/// The samples and replies that find a place in the page: a sample has a frame of four bytes at
-/// least.
-pub(crate) const PLACES: usize = PAGE / 4 + MAX_REPLIES + 1;
+/// The places for the samples of such a page, each of which has a frame of four bytes at least, and
+/// for replies.
+pub(crate) fn page_places(room: usize) -> usize
+    requires limit { room ≤ MAX_PAGE }
+    ensures value { result ≡ page_places room }
+{
+    room / 4 + MAX_REPLIES + 1
+}

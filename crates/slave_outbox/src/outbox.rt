@@ -2,7 +2,7 @@
 ghost use Rattle.std.specs.Prelude.{◌≡◌, ◌≤◌, true, false};
 ghost use Rattle.slave_outbox.specs.Inner.{replies_kept};
 
-use crate::limits::{BLOCKS, MAX_REPLIES, MAX_REPLY, MOST, PLACES};
+use crate::limits::{MAX_REPLIES, page_blocks, page_places};
 use crate::origin::Origin;
 use crate::sent_log::SentLog;
 use frame_page::FramePage;
@@ -16,6 +16,10 @@ use std::marker::Model;
 #[derive(Drop)]
 pub struct Outbox {
     pub(crate) page: FramePage<Origin>,
+    // Samples are laid out up to so many bytes.
+    pub(crate) most: usize,
+    // The most that this ever was: the page has memory for it.
+    pub(crate) room: usize,
     // The bytes that wait.
     pub(crate) len: usize,
     pub(crate) shown: Front,
@@ -34,9 +38,10 @@ impl Model for Outbox {
       counter = o.page.counter;
       waits = laid_of o.page.waits;
       shown = o.shown.count;
+      page = o.most;
     } };
 
-    ghost invariant = { λ o. IsOutbox o.page o.len o.shown o.log.shown };
+    ghost invariant = { λ o. IsOutbox o.most o.room o.page o.len o.shown o.log.shown };
 }
 
 /// What is shown where no peek was.
@@ -63,34 +68,50 @@ fn replies_in(page: &FramePage<Origin>) -> usize
 }
 
 impl Outbox {
-    ghost use Rattle.std.specs.Prelude.{◌≡◌, ◌+◌, ◌<◌, ◌≤◌, ◌++◌, [], ◌∷◌, List, true, false};
-    ghost use Rattle.std.specs.Prelude.{IfOk, Some, not, drop, length, slice_get, take};
+    ghost use Rattle.std.specs.Prelude.{◌≡◌, ℕ, ◌<◌, ◌≤◌, ◌++◌, [], ◌∷◌, List, true, false};
+    ghost use Rattle.std.specs.Prelude.{IfOk, OnErr, OnOk, Some, not, drop, length, slice_get, take};
     ghost use Rattle.frame_writer.specs.Frame.{text};
     ghost use Rattle.xcp_base.specs.declared.limits.TheConstants.{MAX_CTO};
     ghost use Rattle.slave_outbox.specs.Outboxes.{Laid, LaysOut, Shows, StandsAfter, bytes_in};
     ghost use Rattle.slave_outbox.specs.Outboxes.{has_room, has_waiting, origins_in, packets_in};
     ghost use Rattle.slave_outbox.specs.Outboxes.{replies_in, together};
-    ghost use Rattle.slave_outbox.specs.declared.limits.TheConstants.{MAX_REPLIES, MAX_REPLY};
-    ghost use Rattle.slave_outbox.specs.declared.limits.TheConstants.{MOST};
+    ghost use Rattle.slave_outbox.specs.declared.limits.TheConstants.{MAX_PAGE, MAX_REPLIES};
 
-    /// An outbox in which nothing waits. Its first frame has CTR 0.
+    /// An outbox in which nothing waits, with room for replies alone. Its first frame has CTR 0.
     pub fn new(alloc: Global) -> Result<Outbox, AllocError>
-        ensures stands { IfOk result (λ o. StandsAfter o [] []) }
+        ensures stands { IfOk result (λ o. StandsAfter o 0 [] []) }
         ensures none_shown { IfOk result (λ o. o.shown ≡ 0) }
     {
         Ok(Outbox {
-            page: FramePage::new(alloc, BLOCKS, PLACES)?,
+            page: FramePage::new(alloc, page_blocks(0), page_places(0))?,
+            most: 0,
+            room: 0,
             len: 0,
             shown: NONE_SHOWN,
             log: SentLog::new(),
         })
     }
 
-    /// Whether one more reply finds room: fewer than `MAX_REPLIES` wait, and not too many bytes.
+    /// From now on samples are laid out up to so many bytes. What waits stays, also if it has more.
+    /// Memory is taken for a page that is longer than each before; if there is none, nothing
+    /// changes.
+    pub fn set_page(&mut self, alloc: Global, page: usize) -> Result<(), AllocError>
+        requires limit { page ≤ MAX_PAGE }
+        ensures ok { OnOk result (self.new ≡ record self.old { page = page }) }
+        ensures err { OnErr result (self.new ≡ self.old) }
+    {
+        let room = self.room.max(page);
+        self.page.grow(alloc, page_blocks(room), page_places(room))?;
+        self.room = room;
+        self.most = page;
+        Ok(())
+    }
+
+    /// Whether one more reply finds room: fewer than `MAX_REPLIES` wait.
     pub fn has_room(&self) -> bool
         ensures { result ≡ has_room self.now }
     {
-        replies_in(&self.page) < MAX_REPLIES && self.len + MAX_REPLY <= MOST
+        replies_in(&self.page) < MAX_REPLIES
     }
 
     /// Lays a reply out behind all that waits, if it finds room, and returns whether it does.
@@ -115,7 +136,6 @@ impl Outbox {
         requires not_empty { 0 < length packet.now }
         requires fits { length packet.now ≤ MAX_CTO }
         requires few { replies_in self.old.waits < MAX_REPLIES }
-        requires room { bytes_in self.old.waits + MAX_REPLY ≤ MOST }
         ensures lays_out { LaysOut self.old self.new (together Origin.Reply (packet.now ∷ [])) }
     {
         self.page.put_reply(packet, Origin::Reply);
@@ -142,8 +162,8 @@ impl Outbox {
 
     /// The frames that the last peek showed were sent, and wait no more.
     pub fn sent(&mut self)
-        ensures stands { (sent waits : List Laid) → StandsAfter self.old sent waits
-            → StandsAfter self.new (sent ++ take self.old.shown waits)
+        ensures stands { (page : ℕ) (sent waits : List Laid) → StandsAfter self.old page sent waits
+            → StandsAfter self.new page (sent ++ take self.old.shown waits)
             (drop self.old.shown waits) }
         ensures none_shown { self.new.shown ≡ 0 }
     {

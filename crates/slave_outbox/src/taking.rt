@@ -2,18 +2,16 @@
 ghost use Rattle.std.specs.Prelude.{◌≡◌, ◌-◌};
 ghost use Rattle.slave_outbox.specs.Outboxes.{bytes_in};
 ghost use Rattle.slave_outbox.specs.Taking.{TakesItem};
-ghost use Rattle.slave_outbox.specs.declared.limits.TheConstants.{PAGE};
 
-use crate::limits::PAGE;
 use crate::outbox::Outbox;
 use crate::{Intake, Step};
 
 impl Outbox {
     /// The bytes that samples still find room in: up to the page's end, or none.
     fn room(&self) -> usize
-        ensures { result ≡ PAGE - bytes_in self.now.waits }
+        ensures { result ≡ self.now.page - bytes_in self.now.waits }
     {
-        PAGE.saturating_sub(self.len)
+        self.most.saturating_sub(self.len)
     }
 
     /// Takes the next item of an event channel's ring, if one is there, by its intake. A sample

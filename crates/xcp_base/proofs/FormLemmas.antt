@@ -9,8 +9,8 @@ use Rattle.xcp_base.specs.declared.stamp_size.StampSize.{StampSize}
 use Rattle.xcp_base.specs.declared.stamp_size.StampSize.TheVariants.{One, Two, Four}
 use Rattle.xcp_base.specs.Forms.{FitsFirstPid, field_len, first_pid_behind, id_field, list_field, most_odts, names, pid_of, stamp_bytes, stamp_field}
 
--- of a list with at most 8 ODTs, FIRST_PID and the number of its ODTs are at most 124
-pub fits_all : (id : IdKind) (n f : ℕ) → n ≤ 8 → FitsFirstPid id n f → f + n ≤ 124
+-- of a list, FIRST_PID and the number of its ODTs are at most 124 in all
+pub fits_all : (id : IdKind) (n f : ℕ) → n ≤ 124 → FitsFirstPid id n f → f + n ≤ 124
 fits_all Absolute n f few h = h
 fits_all RelativeByte n f few h = omega (arith, few, h)
 fits_all RelativeWord n f few h = omega (arith, few, h)

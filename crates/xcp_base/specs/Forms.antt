@@ -1,11 +1,13 @@
 -- The form of DAQ packets (ASAM MCD-1 XCP, protocol layer, identification field and timestamp
--- field): which of the three identification fields they begin with, and how many bytes a timestamp
--- has. One form holds for a whole run.
-use Rattle.std.specs.Prelude.{◌≡◌, ℕ, ◌+◌, ◌*◌, ◌/◌, ◌%◌, ◌≤◌, ◌==◌, ◌&&◌, nat_le, nat_lt, Bool}
+-- field): which of the three identification fields they begin with, how many bytes a timestamp has,
+-- and a packet at most. One form holds for all packets of a slave.
+use Rattle.std.specs.Prelude.{◌≡◌, ℕ, ◌+◌, ◌-◌, ◌*◌, ◌/◌, ◌%◌, ◌≤◌, ◌==◌, ◌&&◌, nat_le, nat_lt, min}
+use Rattle.std.specs.Prelude.{Bool}
 use Rattle.std.specs.Prelude.{if◌then◌else◌, List, [], ◌∷◌, slice_index}
 use Rattle.std.specs.Prelude.{Option, Some, None, option_map}
 use Rattle.std.specs.Int.{bytes_low_first}
-use Rattle.xcp_base.specs.declared.limits.TheConstants.{MAX_LISTS, MAX_ODTS, MAX_ODTS_IN_ALL}
+use Rattle.xcp_base.specs.declared.limits.TheConstants.{MAX_DTO, MAX_ENTRY_SIZE, MAX_LISTS}
+use Rattle.xcp_base.specs.declared.limits.TheConstants.{MAX_ODTS_IN_ALL, MAX_PACKET, MIN_DTO}
 use Rattle.xcp_base.specs.declared.id_kind.IdKind.{IdKind}
 use Rattle.xcp_base.specs.declared.id_kind.IdKind.TheVariants.{Absolute, RelativeByte, RelativeWord}
 use Rattle.xcp_base.specs.declared.stamp_size.StampSize.{StampSize}
@@ -28,8 +30,8 @@ first_pid_behind RelativeWord before = 0
 -- the most ODTs of all lists; with a relative ODT number as many as the lists may have
 abbrev pub most_odts : IdKind → ℕ
 most_odts Absolute = MAX_ODTS_IN_ALL
-most_odts RelativeByte = MAX_LISTS * MAX_ODTS
-most_odts RelativeWord = MAX_LISTS * MAX_ODTS
+most_odts RelativeByte = MAX_LISTS * MAX_ODTS_IN_ALL
+most_odts RelativeWord = MAX_LISTS * MAX_ODTS_IN_ALL
 
 -- a list with so many ODTs may have this FIRST_PID
 abbrev pub FitsFirstPid : IdKind → ℕ → ℕ → Type 0
@@ -82,10 +84,25 @@ size_of bytes =
     else if bytes == 2 then Some Two
     else if bytes == 4 then Some Four else None
 
--- the form with this identification field and timestamps of so many bytes, if there is one
-abbrev pub form_of : IdKind → ℕ → Option PacketForm
-form_of id bytes = option_map (λ size. record { id = id; stamp = size }) (size_of bytes)
+-- the form with this identification field, timestamps of so many bytes and this MAX_DTO, if there is
+-- one
+abbrev pub form_with : IdKind → ℕ → ℕ → Option PacketForm
+form_with id bytes max_dto =
+    option_map (λ size. record { id = id; stamp = size; max_dto = max_dto }) (size_of bytes)
 
--- the form that a store has where none is asked for: an absolute ODT number, timestamps of 4 bytes
+-- the same with MAX_DTO of a run
+abbrev pub form_of : IdKind → ℕ → Option PacketForm
+form_of id bytes = form_with id bytes MAX_DTO
+
+-- the form that a store has where none is asked for: an absolute ODT number, timestamps of 4 bytes,
+-- MAX_DTO of a run
 abbrev pub usual_form : PacketForm
-usual_form = record { id = Absolute; stamp = Four }
+usual_form = record { id = Absolute; stamp = Four; max_dto = MAX_DTO }
+
+-- what every form keeps to
+abbrev pub IsForm : PacketForm → Type 0
+IsForm form = (MIN_DTO ≤ form.max_dto) × (form.max_dto ≤ MAX_PACKET)
+
+-- the most bytes of an entry: a packet has a byte before it
+abbrev pub most_entry : PacketForm → ℕ
+most_entry form = min (form.max_dto - 1) MAX_ENTRY_SIZE

@@ -2,7 +2,7 @@
 ghost use Rattle.std.specs.Prelude.{◌≡◌, ◌∷◌, ◌*◌, ◌≤◌, take};
 ghost use Rattle.xcp_base.specs.Forms.{field_len, first_pid_behind, list_field, most_odts};
 
-use crate::limits::{MAX_FIELD, MAX_LISTS, MAX_ODTS, MAX_ODTS_IN_ALL};
+use crate::limits::{MAX_FIELD, MAX_LISTS, MAX_ODTS_IN_ALL};
 
 /// What the packets of a DAQ list begin with (ASAM MCD-1 XCP, protocol layer, identification
 /// field).
@@ -46,11 +46,11 @@ impl IdKind {
     /// or below 0x7B, with a relative one as many as the lists may have.
     pub fn most_odts(self) -> usize
         ensures value { result ≡ most_odts self }
-        ensures limit { result ≤ MAX_LISTS * MAX_ODTS }
+        ensures limit { result ≤ MAX_LISTS * MAX_ODTS_IN_ALL }
     {
         match self {
             IdKind::Absolute => MAX_ODTS_IN_ALL,
-            IdKind::RelativeByte | IdKind::RelativeWord => MAX_LISTS as usize * MAX_ODTS,
+            IdKind::RelativeByte | IdKind::RelativeWord => MAX_LISTS as usize * MAX_ODTS_IN_ALL,
         }
     }
 

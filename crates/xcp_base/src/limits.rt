@@ -9,11 +9,12 @@ pub const RUN_CHANNELS: u16 = 8;
 /// The most DAQ lists.
 pub const MAX_LISTS: u16 = 16;
 
-/// The most ODTs of one DAQ list, and so the most packets of one sample.
+/// The most ODTs of one DAQ list of a run, and so the most packets of a sample in a value of fixed
+/// size.
 pub const MAX_ODTS: usize = 8;
 
-/// The most ODTs of all DAQ lists with an absolute ODT number, so that each PID stays at or below
-/// 0x7B before the overload bit.
+/// The most ODTs of one DAQ list; and of all with an absolute ODT number, so that each PID stays at
+/// or below 0x7B before the overload bit.
 pub const MAX_ODTS_IN_ALL: usize = 124;
 
 /// The most entries of one ODT of a slave that a master connects to.
@@ -22,10 +23,13 @@ pub const MAX_ENTRIES: usize = 255;
 /// The most entries of one ODT of a run.
 pub const RUN_ENTRIES: u8 = 32;
 
-/// MAX_DTO: the longest packet, in bytes.
+/// MAX_DTO of a run: the longest packet in a value of fixed size, in bytes.
 pub const MAX_DTO: usize = 64;
 
-/// The greatest MAX_DTO: the longest packet that goes through a ring of frames, in bytes.
+/// The least MAX_DTO of a slave, in bytes.
+pub const MIN_DTO: u16 = 8;
+
+/// The greatest MAX_DTO of a slave: the longest packet, in bytes.
 pub const MAX_PACKET: usize = 8192;
 
 /// The greatest MAX_CTO of a slave: of its master's command packets and its replies, in bytes.
@@ -47,8 +51,8 @@ pub const MAX_FIELD: usize = 3;
 /// The longest timestamp, in bytes.
 pub const MAX_STAMP: u8 = 4;
 
-/// The longest ODT entry, in bytes; the shortest has one.
-pub const MAX_ENTRY_SIZE: u8 = 63;
+/// The longest ODT entry, in bytes, where MAX_DTO is longer; the shortest has one.
+pub const MAX_ENTRY_SIZE: u8 = 255;
 
 /// The longest memory image, in bytes; the shortest has one.
 pub const MAX_IMAGE_LEN: usize = 4096;

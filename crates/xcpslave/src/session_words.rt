@@ -32,7 +32,7 @@ fn write_line(text: &mut String, line: &Line) -> Result<(), AllocError> {
             write_slices(text, memory)
         }
         Line::Memory(memory) => write_memory(text, memory),
-        Line::Send => text.push_str("send: all that waits is sent\n"),
+        Line::Send => text.push_str("send: what waits is sent\n"),
         Line::SendIn(room) => {
             writeln!(text, "send: of what waits, frames of {room} bytes at most")
         }

@@ -6,13 +6,14 @@ use std::alloc::{AllocError, Global};
 use toml::Table;
 
 /// The keys of a session file.
-const KEYS: [&str; 14] = [
+const KEYS: [&str; 15] = [
     "image_len",
     "id",
     "stamp_size",
     "unit",
     "ticks",
     "max_cto",
+    "max_dto",
     "base",
     "name",
     "a2l_name",

@@ -3,7 +3,7 @@ use Rattle.std.specs.Prelude.{◌≡◌, ℕ, ◌+◌, ◌-◌, ◌==◌, ◌&&�
 use Rattle.std.specs.Prelude.{if◌then◌else◌, [], length, map, sum_by, slice_index_or, slice_set}
 use Rattle.std.specs.Prelude.{replicate, List, Option, Some, None, is_none}
 use Rattle.std.specs.List.{list_any}
-use Rattle.xcp_base.specs.declared.limits.TheConstants.{MAX_LISTS, MAX_ODTS}
+use Rattle.xcp_base.specs.declared.limits.TheConstants.{MAX_LISTS}
 use Rattle.xcp_base.specs.declared.packet_form.PacketForm.{PacketForm}
 use Rattle.xcp_base.specs.Forms.{most_odts}
 use Rattle.xcp_base.specs.declared.err_code.ErrCode.{ErrCode}
@@ -55,7 +55,7 @@ other_odts s l = sum_by odts_of s.lists - odts_of (list_at s l)
 -- with n ODTs in list l, in place of those that it has, there would be too many
 abbrev pub shows_too_many : StoreState → ℕ → ℕ → Bool
 shows_too_many s l n =
-    nat_lt MAX_ODTS n || nat_lt (most_odts s.profile.form.id) (other_odts s l + n)
+    nat_lt s.profile.most_odts n || nat_lt (most_odts s.profile.form.id) (other_odts s l + n)
 
 -- list l isn't ready
 abbrev pub shows_unready : StoreState → ℕ → Bool
@@ -109,7 +109,7 @@ shown_fault s (SetDaqPtr list odt entry) =
 shown_fault s (WriteDaq bit size ext addr) =
     if runs_at_pointer s s.pointer then Some DaqActive
     else if is_none s.pointer then Some Sequence
-    else if is_bad_entry s.profile.segments bit size ext addr then Some OutOfRange else None
+    else if is_bad_entry s.profile bit size ext addr then Some OutOfRange else None
 shown_fault s (SetDaqListMode mode list channel prescaler priority) =
     if shows_running s list then Some DaqActive
     else if is_bad_target s list channel prescaler then Some OutOfRange

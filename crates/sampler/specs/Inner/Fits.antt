@@ -4,8 +4,10 @@ use Rattle.std.specs.Prelude.{take, if◌then◌else◌}
 use Rattle.xcp_base.specs.declared.limits.TheConstants.{MAX_LISTS, MAX_TRIGGERS}
 use Rattle.segments.specs.declared.segment.Segment.{Segment}
 use Rattle.segments.specs.Image.{image_len}
+use Rattle.channel_ring.specs.Making.{SampleLimit}
 use Rattle.copy_plan.specs.Config.{ListPlan}
 use Rattle.xcp_base.specs.Lists.{has_list}
+use Rattle.sampler.specs.Limits.{AllKeepTo}
 use Rattle.sampler.specs.State.{ArePlansOf, RiseFrom, found_at, track_runs}
 use Rattle.sampler.specs.declared.track.TheConstants.{NEVER}
 use Rattle.sampler.specs.declared.track.Track.{Track}
@@ -40,11 +42,12 @@ NoneDueBefore soonest (track ∷ tracks) = (soonest ≤ track.next) × NoneDueBe
 -- what every sampler keeps to
 pub record IsSampler
     (channel len : ℕ) (segments : List Segment) (plans : List ListPlan) (tracks : List Track)
-    (triggers soonest accepted : ℕ)
+    (triggers soonest accepted : ℕ) (most : SampleLimit)
     : Type 0 where
   pub long : len ≡ image_len segments
   pub plans_of : ArePlansOf channel segments plans
   pub rising : RiseFrom 0 plans
+  pub keep : AllKeepTo most plans
   pub room : length plans ≤ MAX_LISTS
   pub places : length tracks ≡ MAX_LISTS
   pub tracks_fit : TracksFit triggers plans tracks

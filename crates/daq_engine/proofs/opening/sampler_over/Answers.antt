@@ -7,8 +7,8 @@ use Rattle.daq_engine.proofs.opening.sampler_over.Goals as goal
 pub over-requires-clause-plans_of : goal.over-requires-clause-plans_of
 over-requires-clause-plans_of g c =
     rw c.byte.ensures.value
-    (subst (λ n. ArePlansOf c.args.c n c.in-Ok.plans.items) (sym c.segments.ensures.value)
-    (of_channel c.args.store.now c.args.c c.in-Ok.plans.items c.in-Ok.ensures.value c.in-Ok.ensures.plan))
+    (subst (λ n. ArePlansOf c.args.c n c.args.plans.items) (sym c.segments.ensures.value)
+    (of_channel c.args.store.now c.args.c c.args.plans.items c.requires.of_channel c.requires.plan))
 
 pub over-requires-clause-rising : goal.over-requires-clause-rising
-over-requires-clause-rising g c = rising c.args.store.now c.args.c c.in-Ok.plans.items c.in-Ok.ensures.value
+over-requires-clause-rising g c = rising c.args.store.now c.args.c c.args.plans.items c.requires.of_channel

@@ -1,6 +1,7 @@
 use Rattle.std.proofs.Common.{◌≡◌, ◌+◌, ℕ, Bool, List, [], ◌∷◌, ◌++◌, length, get_or, set, take, arith, ap, sym, ◌∙◌, refl, subst, length-take, ◌^◌, suc}
 use Rattle.std.proofs.Math.Seq.{take-suc}
 use Rattle.copy_plan.specs.Config.{ListPlan}
+use Rattle.sampler.specs.Limits.{KeepsTo}
 use Rattle.sampler.specs.Inner.AtTrigger.{HandlesLists, Row, Stage, due_now, first_stage, row_count, row_of, triggered}
 use Rattle.sampler.specs.Inner.Moments.{MomentParts}
 use Rattle.sampler.specs.declared.track.Track.{Track}
@@ -16,6 +17,7 @@ loop-place-init g c =
       handled = handles-none g.S.SendEnd g.S.End.RingEnd c.args.moment.now c.args.end.now c.args.tracks.now c.args.number;
       next_limit = omega arith;
       capacity = refl;
+      limit = refl;
       ring = refl;
     }
 
@@ -23,6 +25,7 @@ pub sample_list-accepted-requires : goal.sample_list-accepted-requires
 sample_list-accepted-requires g c = record {
   channel = ap (λ (p : ListPlan). p.channel) c.index-plans-place.is ∙ channel-at c.args.moment.now.channel c.args.moment.now.segments c.args.plans.now c.loop-place.place c.index-plans-place.result c.requires.plans_of (omega arith);
   segments = ap (λ (p : ListPlan). p.segments) c.index-plans-place.is ∙ plan-at c.args.moment.now.channel c.args.moment.now.segments c.args.plans.now c.loop-place.place c.index-plans-place.result c.requires.plans_of (omega arith);
+  keeps = subst (λ m. KeepsTo m c.index-plans-place.result) (sym c.loop-place.invariant.limit) (subst (KeepsTo (g.S.SendEnd.limit c.args.end.now)) (sym c.index-plans-place.is) (c.requires.keep c.loop-place.place c.index-plans-place.result (omega arith)));
 }
 
 pub triggered-requires : goal.triggered-requires
@@ -74,5 +77,6 @@ loop-place-preserved g c =
           count);
       next_limit = omega (arith, count, c.loop-place.invariant.next_limit, row_count-le row);
       capacity = c.sample_list-accepted.ensures.capacity_stays ∙ c.loop-place.invariant.capacity;
+      limit = c.sample_list-accepted.ensures.limit_stays ∙ c.loop-place.invariant.limit;
       ring = c.sample_list-accepted.ensures.ring_stays ∙ c.loop-place.invariant.ring;
     }

@@ -10,5 +10,6 @@ invariant-loop-place g l =
       handled : HandlesLists E R l.moment (take l.place l.plans) (first_stage l.fn.end l.fn.tracks l.number) (record { end = l.end; tracks = l.tracks; taken = l.taken; next = l.next });
       next_limit : l.next ≤ l.number + l.place;
       capacity : E.capacity l.end ≡ E.capacity l.fn.end;
+      limit : E.limit l.end ≡ E.limit l.fn.end;
       ring : E.ring l.end ≡ E.ring l.fn.end;
     }

@@ -44,7 +44,7 @@ is_packet c =
 pub push_copied-requires-clause-fits : goal.push_copied-requires-clause-fits
 push_copied-requires-clause-fits c =
     let plan : ListPlan = c.args.self.now in
-    omega (arith, ap length (is_packet c), length-packet plan (image_in plan.channel plan.segments c.args.memory) c.args.stamp c.args.k c.args.overload (fits_len plan.channel plan.segments c.args.memory c.requires.memory) c.copies_of-copies.ensures.plan c.requires.odt)
+    omega (arith, ap length (is_packet c), length-packet plan (image_in plan.channel plan.segments c.args.memory) c.args.stamp c.args.k c.args.overload (fits_len plan.channel plan.segments c.args.memory c.requires.memory) c.copies_of-copies.ensures.plan c.requires.by_value c.requires.odt)
 
 pub returns : goal.returns
 returns c =

@@ -5,10 +5,10 @@ use Rattle.copy_plan.specs.Memory.{image_in}
 use Rattle.copy_plan.specs.Packet.{packet, packets}
 use Rattle.copy_plan.proofs.plan.CopyPlan.fill_into.Goals as goal
 
--- a list has eight ODTs at most
+-- it has eight ODTs at most
 pub append_packet-requires-clause-room : goal.append_packet-requires-clause-room
 append_packet-requires-clause-room c =
-    omega (arith, ap length c.loop-k.invariant, length-map-range_with_len (packet c.args.self.now (image_in c.args.self.now.channel c.args.self.now.segments c.args.memory) c.args.stamp c.args.overload) 0 c.loop-k.k, c.odts-k-end.ensures.value, c.odts-k-end.ensures.plan.limit)
+    omega (arith, ap length c.loop-k.invariant, length-map-range_with_len (packet c.args.self.now (image_in c.args.self.now.channel c.args.self.now.segments c.args.memory) c.args.stamp c.args.overload) 0 c.loop-k.k, c.odts-k-end.ensures.value, c.requires.by_value.few)
 
 -- one packet more
 pub loop-k-preserved : goal.loop-k-preserved

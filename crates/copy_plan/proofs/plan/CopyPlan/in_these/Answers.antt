@@ -17,17 +17,17 @@ planned c =
     plan_is c.args.list c.args.conf.now c.args.first_pid c.args.segments.now.items c.requires.image c.requires.list
     (omega (arith, c.channel-channel.ensures.limit, c.channel-channel.ensures.value))
     (λ some. omega (arith, c.prescaler.ensures.positive some, c.prescaler.ensures.value))
-    c.in_ok-odts.ensures.limit c.requires.pids (ready c.args.segments.now.items c.args.conf.now c.requires.ready)
+    c.in_ok-odts.ensures.limit (rw c.form.ensures.value at c.form.ensures.limits) c.requires.pids (ready c.args.segments.now.items c.args.conf.now c.requires.ready)
 
 pub invariant_of-result : goal.invariant_of-result
 invariant_of-result c = record {
-  plan = rw (c.channel-channel.ensures.value, c.prescaler.ensures.value, c.form.ensures, c.stamped.ensures, c.of.ensures, c.of-2.ensures) (planned c);
+  plan = rw (c.channel-channel.ensures.value, c.prescaler.ensures.value, c.form.ensures.value, c.stamped.ensures, c.of.ensures, c.of-2.ensures) (planned c);
   len = rw (c.of-2.ensures, ← c.as_slice-2.ensures.value) c.image_len.ensures;
   odts = rw (c.of.ensures, c.of-2.ensures) (c.in_ok-odts.ensures.value ∙ rw c.as_slice.ensures.value (map-joined_spans-written_entries c.channel-channel.result c.args.segments.now.items c.args.conf.now.odts));
   placed = rw c.of-2.ensures (rw c.as_slice.ensures.value at c.in_ok-odts.ensures.placed);
-  frames = rw (c.channel-channel.ensures.value, c.prescaler.ensures.value, c.form.ensures, c.stamped.ensures, c.of.ensures, c.of-2.ensures)
+  frames = rw (c.channel-channel.ensures.value, c.prescaler.ensures.value, c.form.ensures.value, c.stamped.ensures, c.of.ensures, c.of-2.ensures)
       (c.frames_len_of.ensures ∙ sym (lens_are c.args.list c.args.conf.now c.args.first_pid c.args.segments.now.items));
 }
 
 pub returns-clause-plan : goal.returns-clause-plan
-returns-clause-plan c = rw (c.channel-channel.ensures.value, c.prescaler.ensures.value, c.form.ensures, c.stamped.ensures, c.of.ensures, c.of-2.ensures) (planned c)
+returns-clause-plan c = rw (c.channel-channel.ensures.value, c.prescaler.ensures.value, c.form.ensures.value, c.stamped.ensures, c.of.ensures, c.of-2.ensures) (planned c)

@@ -55,7 +55,7 @@ put_packet-end-requires-clause-room c = omega (arith, c.requires.room, ap length
 pub overflow_cast-end : goal.overflow_cast-end
 overflow_cast-end c =
     let w : After-stretches = (goal.at.overflow_cast-end c).After-stretches in
-    omega (arith, c.put_packet-end.ensures.end, ap length (is_packet w), packet_long w, c.copies_of-copies.ensures.plan.short c.args.k c.requires.odt)
+    omega (arith, c.put_packet-end.ensures.end, ap length (is_packet w), packet_long w, c.copies_of-copies.ensures.plan.short c.args.k c.requires.odt, c.copies_of-copies.ensures.plan.form)
 
 pub returns-clause-end : goal.returns-clause-end
 returns-clause-end c =
@@ -70,7 +70,7 @@ returns-clause-front c =
     let at = c.args.at in
     let end = c.put_packet-end.result in
     let long : end - (at + 4) ≡ length q = omega (arith, c.put_packet-end.ensures.end, ap length (is_packet w)) in
-    let few : length q ≤ 64 = omega (arith, packet_long w, c.copies_of-copies.ensures.plan.short c.args.k c.requires.odt) in
+    let few : length q ≤ 8192 = omega (arith, packet_long w, c.copies_of-copies.ensures.plan.short c.args.k c.requires.odt, c.copies_of-copies.ensures.plan.form) in
     let header : c.to_le_bytes-header.result ≡ two_bytes (length q) ++ two_bytes 0 = c.to_le_bytes-header.ensures ∙ ap (to_le_bytes w32) long ∙ header_is (length q) few in
     let four : length c.to_le_bytes-header.result ≡ 4 = ap length header in
     let stop : c.place.result ≡ at + 4 = omega (arith, c.place.ensures.end, four) in

@@ -6,5 +6,5 @@ use Rattle.daq_store.proofs.odt.Odt.bytes.Given as goal
 abbrev pub invariant-loop-entry : goal.invariant-loop-entry
 invariant-loop-entry l = record {
   bytes : l.bytes ≡ sum_by entry_len (take l.entry-index l.entry-items);
-  bound : l.bytes ≤ 63 * l.entry-index;
+  bound : l.bytes ≤ 255 * l.entry-index;
 }

@@ -8,7 +8,7 @@ new-lists-requires g c = omega (arith, rise-length c.args.channel c.args.segment
 pub invariant_of-result : goal.invariant_of-result
 invariant_of-result g c =
     rw (c.new-lists.ensures.plans, c.at.ensures)
-    (first-sampler c.args.channel c.image_len.result c.args.running c.args.segments.items c.args.plans.items c.new-lists.result.tracks c.soonest-soonest.result (rw c.as_slice.ensures.value at c.image_len.ensures) c.requires.plans_of c.requires.rising c.new-lists.ensures.places c.new-lists.ensures.tracks (rw (sym c.new-lists.ensures.plans) c.soonest-soonest.ensures))
+    (first-sampler c.args.channel c.image_len.result c.args.running c.args.segments.items c.args.plans.items c.new-lists.result.tracks c.soonest-soonest.result (g.S.SendEnd.limit c.args.end) (rw c.as_slice.ensures.value at c.image_len.ensures) c.requires.plans_of c.requires.rising c.requires.keep c.new-lists.ensures.places c.new-lists.ensures.tracks (rw (sym c.new-lists.ensures.plans) c.soonest-soonest.ensures))
 
 pub returns-clause-stands : goal.returns-clause-stands
 returns-clause-stands g c =

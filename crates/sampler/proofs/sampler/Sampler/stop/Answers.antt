@@ -56,7 +56,7 @@ returns-clause-ok g c = λ past stands.
 
 pub invariant_of-self-2 : goal.invariant_of-self-2
 invariant_of-self-2 g c =
-    IsSampler-set c.self.inside.channel c.self.inside.image_len c.self.inside.segments.items c.self.inside.lists.plans.items c.self.inside.lists.tracks c.self.inside.triggers c.self.inside.soonest c.self.inside.accepted c.in-Some.place c.stopped.result c.soonest-self-inside.result c.self.invariant (rw c.stopped.ensures refl) c.soonest-self-inside.ensures
+    IsSampler-set c.self.inside.channel c.self.inside.image_len c.self.inside.segments.items c.self.inside.lists.plans.items c.self.inside.lists.tracks c.self.inside.triggers c.self.inside.soonest c.self.inside.accepted c.in-Some.place c.stopped.result c.soonest-self-inside.result (g.S.SendEnd.limit c.self.inside.end) (g.S.SendEnd.limit c.offer_marker.new.self) c.self.invariant c.offer_marker.ensures.limit_stays (rw c.stopped.ensures refl) c.soonest-self-inside.ensures
 
 -- a list that is not of the channel
 pub returns-in_default-clause-refused : goal.returns-in_default-clause-refused

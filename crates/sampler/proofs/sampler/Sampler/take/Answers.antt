@@ -37,7 +37,7 @@ the_lists g c =
 -- where none of the lists is due
 pub invariant_of-self : goal.invariant_of-self
 invariant_of-self g c =
-    IsSampler-none_due c.self.inside.channel c.self.inside.image_len c.self.inside.segments.items c.self.inside.lists.plans.items c.self.inside.lists.tracks c.self.inside.triggers c.self.inside.soonest c.self.inside.accepted
+    IsSampler-none_due c.self.inside.channel c.self.inside.image_len c.self.inside.segments.items c.self.inside.lists.plans.items c.self.inside.lists.tracks c.self.inside.triggers c.self.inside.soonest c.self.inside.accepted (g.S.SendEnd.limit c.self.inside.end)
     c.self.invariant (omega (arith, c.self.invariant.limit, c.requires.more, ap (λ (s : SamplerState _). s.triggers) c.self.view_is))
 
 pub returns-then-self-clause-taken : goal.returns-then-self-clause-taken
@@ -61,8 +61,8 @@ returns-then-self-clause-taken g c = λ past stands.
 pub invariant_of-self-2 : goal.invariant_of-self-2
 invariant_of-self-2 g c =
     let w : After-publish g = (goal.at.invariant_of-self-2 g c).After-publish in
-    IsSampler-handled g.S.SendEnd g.S.End.RingEnd (moment_of g w) c.self.inside.image_len c.self.inside.segments.items c.self.inside.lists.plans.items (first_of g w) (last_of g w) c.self.inside.triggers c.self.inside.soonest c.soonest-self-inside.result
-    c.self.invariant (the_lists g w) (omega (arith, c.sample_lists-accepted.ensures.next, ap (λ (ps : List ListPlan). length ps) c.as_slice.ensures.value)) c.sample_lists-accepted.auto.tracks (omega (arith, c.self.invariant.limit, c.requires.more, ap (λ (s : SamplerState _). s.triggers) c.self.view_is)) c.soonest-self-inside.ensures
+    IsSampler-handled g.S.SendEnd g.S.End.RingEnd (moment_of g w) c.self.inside.image_len c.self.inside.segments.items c.self.inside.lists.plans.items (first_of g w) (last_of g w) c.self.inside.triggers c.self.inside.soonest c.soonest-self-inside.result (g.S.SendEnd.limit c.self.inside.end) (g.S.SendEnd.limit c.publish.new.self)
+    c.self.invariant (c.publish.ensures.limit_stays ∙ c.sample_lists-accepted.ensures.limit_stays) (the_lists g w) (omega (arith, c.sample_lists-accepted.ensures.next, ap (λ (ps : List ListPlan). length ps) c.as_slice.ensures.value)) c.sample_lists-accepted.auto.tracks (omega (arith, c.self.invariant.limit, c.requires.more, ap (λ (s : SamplerState _). s.triggers) c.self.view_is)) c.soonest-self-inside.ensures
 
 pub returns-clause-taken : goal.returns-clause-taken
 returns-clause-taken g c = λ past stands.

@@ -2,7 +2,7 @@ use Rattle.std.proofs.Common.{◌≡◌, ap, ◌∙◌, sym, subst}
 use Rattle.session.specs.Profiles.{lists_of}
 use Rattle.slave_channels.specs.Calls.{HasSome}
 use Rattle.slave.specs.Plans.{IsSame}
-use Rattle.slave.proofs.PreparingLemmas.{if-err, looks-in-vain, none-prepare, on-ok, other-in-vain, starts-prepare}
+use Rattle.slave.proofs.PreparingLemmas.{if-err, looks-in-vain, none-prepare, on-ok-both, other-in-vain, starts-prepare}
 use Rattle.slave.proofs.slave.Slave.prepare.Goals as goal
 
 pub returns-then-is_empty-clause-ok : goal.returns-then-is_empty-clause-ok
@@ -18,18 +18,18 @@ returns-then-not-stands-clause-err c =
 pub returns-clause-ok : goal.returns-clause-ok
 returns-clause-ok c =
     let profile = subst (λ s. s.session.store.profile ≡ lists_of s.session.profile) c.self.view_is (ap (λ s. s.profile) (sym c.store.ensures.value) ∙ c.store.ensures.profile) in
-    on-ok c.start.result _ _
-    (λ starts.
-    starts-prepare c.args.self.now c.start.new.self c.args.lists starts (c.is_idle.ensures.busy c.if-is_idle.false) profile
+    on-ok-both c.start.result _ _ _
+    (λ starts rings.
+    starts-prepare c.args.self.now c.start.new.self c.args.lists starts (c.is_idle.ensures.busy c.if-is_idle.false) profile rings
     (λ l below one.
     subst (λ s. IsSame s.plan s.session.store l) c.self.view_is (subst (λ z. IsSame c.self.inside.plan z l) c.store.ensures.value (c.stands.ensures.yes c.if-not-stands.false l below one))))
-    c.start.ensures.ok
+    c.start.ensures.ok c.start.ensures.rings
 
 pub returns-clause-err : goal.returns-clause-err
 returns-clause-err c =
     let profile = subst (λ s. s.session.store.profile ≡ lists_of s.session.profile) c.self.view_is (ap (λ s. s.profile) (sym c.store.ensures.value) ∙ c.store.ensures.profile) in
     let some : HasSome c.args.lists = c.is_empty.ensures.some c.if-is_empty.false in
-    if-err c.start.result _ _ _ c.start.ensures.busy c.start.ensures.err
+    if-err c.start.result _ _ _ c.start.ensures.refused c.start.ensures.err
     (λ code is looks.
     looks-in-vain c.args.self.now c.start.new.self c.args.lists code (c.is_idle.ensures.busy c.if-is_idle.false) is looks some profile
     (λ l below one.

@@ -8,4 +8,4 @@ pub returns-clause-discards : goal.returns-clause-discards
 returns-clause-discards c =
     throws-away c.args.self.now c.leave_all.new.self _ c.leave_all.ensures.leaves
     (ap (λ (s : SlaveState). record s { outbox = c.discard.new.self }) c.self.view_is)
-    (λ sent wait stands. c.discard.ensures.stands sent wait (subst (λ (s : SlaveState). StandsAfter s.outbox sent wait) (sym c.self.view_is) stands))
+    (λ page sent wait stands. c.discard.ensures.stands page sent wait (subst (λ (s : SlaveState). StandsAfter s.outbox page sent wait) (sym c.self.view_is) stands))

@@ -1,10 +1,9 @@
 use Rattle.std.proofs.Common.{◌-◌, sym, ap, ◌∙◌}
 use Rattle.slave_outbox.specs.Outboxes.{OutboxState, bytes_in}
-use Rattle.slave_outbox.specs.declared.limits.TheConstants.{PAGE}
 use Rattle.slave_outbox.proofs.BoxLemmas.{bytes-waiting}
 use Rattle.slave_outbox.proofs.outbox.Outbox.room.Goals as goal
 
 pub returns : goal.returns
 returns c =
     let o = c.self.inside in
-    c.saturating_sub.ensures ∙ ap (λ n. PAGE - n) (sym (bytes-waiting o.page o.len o.shown o.log.shown c.self.invariant) ∙ ap (λ (x : OutboxState). bytes_in x.waits) c.self.view_is)
+    c.saturating_sub.ensures ∙ ap (λ n. o.most - n) (sym (bytes-waiting o.most o.room o.page o.len o.shown o.log.shown c.self.invariant)) ∙ ap (λ (x : OutboxState). x.page - bytes_in x.waits) c.self.view_is

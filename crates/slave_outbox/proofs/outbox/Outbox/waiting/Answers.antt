@@ -6,4 +6,4 @@ use Rattle.slave_outbox.proofs.outbox.Outbox.waiting.Goals as goal
 pub returns : goal.returns
 returns c =
     let o = c.self.inside in
-    sym (bytes-waiting o.page o.len o.shown o.log.shown c.self.invariant) ∙ ap (λ (x : OutboxState). bytes_in x.waits) c.self.view_is
+    sym (bytes-waiting o.most o.room o.page o.len o.shown o.log.shown c.self.invariant) ∙ ap (λ (x : OutboxState). bytes_in x.waits) c.self.view_is
