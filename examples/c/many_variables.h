@@ -1,7 +1,7 @@
-/* Variables of examples/c/xcp_server.c in place of its own, as many as a tool may measure; for tests/live. The task of 1 ms has 500
- * signals, for which no packet has entries enough. That of 10 ms has what fills ten packets of 1400 bytes to the last one, in the order of
- * the table, and behind it what is polled meanwhile. Each value is the turn of its task and the place of the variable in its group, added:
- * so one of another turn, or of another place, is seen (tests/long_rows.py). */
+/* Variables of xcp_server.c in place of its own, as many as a tool may measure: cc -DVARIABLES='"many_variables.h"', or ./live --many.
+ * The task of 1 ms has 500 signals, for which no packet has entries enough. That of 10 ms has what fills ten packets of 1400 bytes to the
+ * last one, in the order of the table, and behind it what is polled meanwhile. Each value is the turn of its task and the place of the
+ * variable in its group, added: so one of another turn, or of another place, is seen. */
 
 enum { MAX_CTO = 255, RING = 1 << 18, MOST = 1 << 14 };
 enum { SIGNALS = 500, PACKETS = 10, ROOM = 174, WIDES = PACKETS * ROOM - 1, ALL = 2 + SIGNALS + 2 + WIDES + 3 * PACKETS };
