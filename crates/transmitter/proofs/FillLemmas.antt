@@ -5,7 +5,7 @@ use Rattle.xcp_base.specs.declared.item.Item.{Item}
 use Rattle.frame_writer.specs.Shown.{OutState}
 use Rattle.transmitter.specs.Fills.{ArePumps, Fills, FindsNoRoom, IsInFront, TakesTurns, Tells, all_taken, ring_behind}
 use Rattle.transmitter.specs.Inner.Fits.{HasTurns, LaysOn}
-use Rattle.transmitter.specs.Inner.Turns.{Lays}
+use Rattle.transmitter.specs.Inner.Places.{Lays}
 use Rattle.transmitter.specs.Pumps.{CanPump, Leads}
 use Rattle.xcp_base.specs.declared.limits.TheConstants.{MAX_TAKEN}
 use Rattle.transmitter.specs.Written.{TransmitterState}

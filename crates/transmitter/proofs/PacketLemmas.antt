@@ -1,12 +1,14 @@
 -- A frame writer that was handed the packets of a sample.
-use Rattle.std.proofs.Common.{◌≡◌, ℕ, ◌+◌, ◌*◌, ◌≤◌, List, [], ◌∷◌, ◌++◌, IfSome, Option, None, Some, length, refl, sym, ap, ◌∙◌, arith, append_assoc, length-append}
+use Rattle.std.proofs.Common.{◌≡◌, ℕ, ◌+◌, ◌*◌, ◌≤◌, List, [], ◌∷◌, ◌++◌, IfSome, Option, None, Some, length, refl, sym, ap, ◌∙◌, arith, append_assoc, length-append, drop, take}
 use Rattle.std.proofs.lemmas.List.Elements.{All-head, All-tail}
 use Rattle.xcp_base.specs.Packets.{ArePackets, IsPacket}
 use Rattle.xcp_base.specs.declared.limits.TheConstants.{MAX_DTO}
+use Rattle.frame_writer.specs.declared.layout.TheConstants.{MAX_SAMPLE_BYTES}
 use Rattle.frame_writer.specs.Frame.{frame, text}
 use Rattle.frame_writer.specs.Shown.{OutState, after_bytes}
 use Rattle.frame_writer.specs.Writing.{AfterText, FailsWithinText, WriterState, after_text}
 use Rattle.frame_writer.proofs.TextLemmas.{breaks_off-text, text-append, text-mod}
+use Rattle.transmitter.specs.Inner.Places.{Lays}
 use Rattle.transmitter.specs.Written.{BreaksWithin}
 
 -- packets were sent, and then more
@@ -41,10 +43,22 @@ long_text : (n : ℕ) (qs : List (List ℕ)) → 4 * length qs ≤ length (text 
 long_text n [] = omega arith
 long_text n (q ∷ qs) = omega (arith, long_text (n + 1) qs, length-append (frame n q) (text (n + 1) qs))
 
--- and so they do where they were laid out
-pub long_end : (end : Option ℕ) (at n : ℕ) (qs : List (List ℕ)) → IfSome end (λ e. e ≡ at + length (text n qs)) → IfSome end (λ e. at + 4 * length qs ≤ e)
-long_end None at n qs is = tt
-long_end (Some e) at n qs is = omega (arith, is, long_text n qs)
+-- frames that were laid out stand in the buffer
+pub laid : (end : Option ℕ) (a b : WriterState) (old new : List ℕ) (at : ℕ) (qs : List (List ℕ)) → IfSome end (λ _. b ≡ after_text a qs) → IfSome end (λ e. take e new ≡ take at old ++ text a.counter qs) → IfSome end (λ e. e ≡ at + length (text a.counter qs))
+    → IfSome end (λ e. e ≤ at + MAX_SAMPLE_BYTES) → IfSome end (λ e. drop e new ≡ drop e old) → length new ≡ length old → IfSome end (λ e. Lays a.out b.out old new at e × (at + 4 * length qs ≤ e))
+laid None a b old new at qs sent front is few behind len = tt
+laid (Some e) a b old new at qs sent front is few behind len = (
+  record {
+    text = text a.counter qs;
+    wrote = ap (λ (w : WriterState). w.out.contents) sent;
+    front = front;
+    end_is = is;
+    few = few;
+    behind = behind;
+    len = len;
+  },
+  omega (arith, is, long_text a.counter qs),
+)
 
 -- no frame is longer than this
 pub short_text : (n : ℕ) (qs : List (List ℕ)) → ArePackets qs → length (text n qs) ≤ (4 + MAX_DTO) * length qs

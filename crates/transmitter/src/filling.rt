@@ -3,9 +3,10 @@
 ghost use Rattle.std.specs.Prelude.{◌≡◌, ◌↔◌, IsTrue};
 
 use crate::faults::PumpFault;
-use crate::fit_turn::Fit;
+use crate::place::ToBuffer;
 use crate::pumped_all::{NOTHING, PumpedAll};
 use crate::transmitter::Transmitter;
+use crate::turn::Turn;
 use channel_ring::{ItemTake, TakeEnd};
 use frame_writer::SinkOut;
 use xcp_base::limits::MAX_TAKEN;
@@ -101,17 +102,17 @@ impl<T: ItemTake> Transmitter<SinkOut, T> {
             return rings;
         }
         for c in from..rings {
-            match self.fit_turn(c, buffer, end) {
-                Fit::Nothing => {}
-                Fit::Wrote(frames) => {
+            match self.turn::<ToBuffer>(c, buffer, end) {
+                Turn::Nothing => {}
+                Turn::Wrote(frames) => {
                     pumped.taken += 1;
                     pumped.frames += frames as u64;
                 }
-                Fit::Stopped(list) => {
+                Turn::Stopped(list) => {
                     pumped.taken += 1;
                     pumped.stopped = with_list(pumped.stopped, list);
                 }
-                Fit::TooLong => return c,
+                Turn::Stays => return c,
             }
         }
         rings

@@ -5,7 +5,7 @@
 mod drain;
 mod faults;
 mod filling;
-mod fit_turn;
+mod place;
 mod pumped;
 mod pumped_all;
 mod pumping;

@@ -4,6 +4,7 @@ ghost use Rattle.xcp_base.specs.declared.limits.TheConstants.{RUN_CHANNELS};
 ghost use Rattle.frame_writer.specs.Writing.{is_closed};
 
 use crate::faults::PumpFault;
+use crate::place::ToWriter;
 use crate::pumped::Pumped;
 use crate::pumped_all::NOTHING;
 use crate::turn::Turn;
@@ -90,7 +91,8 @@ impl<O: Out, T: ItemTake> Transmitter<O, T> {
         }
         let mut pumped = NOTHING;
         for c in 0..self.ends.len() {
-            match self.turn(c) {
+            // none of the frames go into a buffer
+            match self.turn::<ToWriter>(c, &mut [], &mut 0) {
                 Turn::Nothing => {}
                 Turn::Wrote(frames) => {
                     pumped.taken += 1;
@@ -100,7 +102,7 @@ impl<O: Out, T: ItemTake> Transmitter<O, T> {
                     pumped.taken += 1;
                     pumped.stopped = with_list(pumped.stopped, list);
                 }
-                Turn::Broke => return Err(PumpFault::Failed),
+                Turn::Stays => return Err(PumpFault::Failed),
             }
         }
         self.next = 0;

@@ -1,11 +1,12 @@
-use Rattle.std.proofs.Common.{refl, ◌∙◌, arith, append-nil}
+use Rattle.std.proofs.Common.{refl, ap, ◌∙◌, arith, append-nil}
 use Rattle.xcp_base.specs.declared.item.Item.TheVariants.{Sample, Marker}
 use Rattle.xcp_base.specs.Lists.{has_list}
-use Rattle.frame_writer.specs.Writing.{state_of}
+use Rattle.frame_writer.specs.Writing.{WriterState, state_of}
 use Rattle.frame_writer.specs.contracts.sink_out.SinkOutOut.TheImpl.{ghosts as out}
 use Rattle.transmitter.specs.Written.{transmission}
 use Rattle.transmitter.proofs.FillLemmas.{lays_more, lays_nothing, lays_same}
 use Rattle.transmitter.proofs.PumpLemmas.{idle_more, item_more, look_more, no_turns, one_stop, or_false}
+use Rattle.transmitter.proofs.TurnLemmas.{in_ring, too_long}
 use Rattle.transmitter.proofs.filling.Transmitter+SinkOut+T.pump_on.Goals as goal
 use Rattle.transmitter.proofs.filling.Transmitter+SinkOut+T.pump_on.Goals.{in-Nothing, in-Wrote, in-Stopped}
 
@@ -29,10 +30,28 @@ loop-c-init g c =
     }
 
 -- the sample stays in its ring
-pub returns-in-TooLong-clause-turns : goal.returns-in-TooLong-clause-turns
-returns-in-TooLong-clause-turns g c =
-    let e = c.in-TooLong.ensures.turn in
-    look_more _ _ _ _ _ _ _ c.loop-c.invariant.turns e.leads e.hand
+pub returns-in-Stays-clause-turns : goal.returns-in-Stays-clause-turns
+returns-in-Stays-clause-turns g c =
+    let l = in_ring _ _ _ _ c.in-Stays.ensures.turn in
+    look_more _ _ _ _ _ _ _ c.loop-c.invariant.turns l.leads l.hand
+
+-- and nothing was written
+pub returns-in-Stays-clause-lays : goal.returns-in-Stays-clause-lays
+returns-in-Stays-clause-lays g c =
+    let l = in_ring _ _ _ _ c.in-Stays.ensures.turn in
+    let same = c.in-Stays.ensures.lays in
+    lays_same (state_of out c.args.self.now.writer).out _ _ c.args.buffer.now c.loop-c.buffer _ _ c.loop-c.end _ c.loop-c.invariant.lays (ap (λ (w : WriterState). w.out) l.writer, same.0, same.1)
+
+-- since its frames are too long
+pub returns-in-Stays-clause-no_room : goal.returns-in-Stays-clause-no_room
+returns-in-Stays-clause-no_room g c = λ _.
+    let l = in_ring _ _ _ _ c.in-Stays.ensures.turn in
+    (too_long _ _ _ c.loop-c.end c.loop-c.buffer _ _ c.loop-c.invariant.lays.len c.in-Stays.ensures.lays.1 l).0
+
+pub returns-in-Stays-clause-short : goal.returns-in-Stays-clause-short
+returns-in-Stays-clause-short g c = λ _.
+    let l = in_ring _ _ _ _ c.in-Stays.ensures.turn in
+    (too_long _ _ _ c.loop-c.end c.loop-c.buffer _ _ c.loop-c.invariant.lays.len c.in-Stays.ensures.lays.1 l).1
 
 -- one turn more
 pub loop-c-preserved : goal.loop-c-preserved
@@ -40,7 +59,7 @@ loop-c-preserved g c =
     let i = c.loop-c.invariant in
     let f = i.few in
     let a = (state_of out c.args.self.now.writer).out in
-    elim c.match-fit_turn.branch [
+    elim c.match-turn.branch [
       | in-Nothing w ↦
           let t = w.in-Nothing.ensures.turn in
           let same = w.in-Nothing.ensures.lays in

@@ -4,6 +4,7 @@ use Rattle.xcp_base.specs.declared.item.Item.TheVariants.{Sample, Marker}
 use Rattle.xcp_base.specs.Lists.{has_list}
 use Rattle.transmitter.specs.Written.{transmission}
 use Rattle.transmitter.proofs.PumpLemmas.{failed_pump, idle_more, item_more, no_turns, none_of, nothing, one_pump, one_stop, or_false}
+use Rattle.transmitter.proofs.TurnLemmas.{in_hand}
 use Rattle.transmitter.proofs.transmitter.Transmitter.pump.Goals as goal
 use Rattle.transmitter.proofs.transmitter.Transmitter.pump.Goals.{in-Nothing, in-Wrote, in-Stopped}
 
@@ -18,9 +19,10 @@ loop-c-init g c =
       as_many = refl;
     }
 
-pub returns-in-Broke-clause-pumps : goal.returns-in-Broke-clause-pumps
-returns-in-Broke-clause-pumps g c =
-    let t = c.in-Broke.ensures.turn in
+-- the writer failed
+pub returns-in-Stays-clause-pumps : goal.returns-in-Stays-clause-pumps
+returns-in-Stays-clause-pumps g c =
+    let t = in_hand _ _ _ c.in-Stays.ensures.turn in
     failed_pump _ _ _ c.loop-c.c nothing c.loop-c.pumped t.0 c.loop-c.invariant.turns t.2 t.1 (sym c.closed.ensures ∙ c.if-closed.false, c.if-self-ge-MAX_TAKEN.false)
 
 -- one turn more
