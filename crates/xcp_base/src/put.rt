@@ -1,5 +1,6 @@
 //! Packets are written into bytes: identification field, timestamp, and what is copied of memory.
-ghost use Rattle.std.specs.Prelude.{◌≡◌, ℕ, ◌+◌, ◌<◌, ◌≤◌, ◌++◌, All, length, slice_range, take};
+ghost use Rattle.std.specs.Prelude.{◌≡◌, ℕ, ◌+◌, ◌<◌, ◌≤◌, [], ◌∷◌, ◌++◌, All, length, take};
+ghost use Rattle.std.specs.Prelude.{slice_range, true};
 ghost use Rattle.xcp_base.specs.Copied.{AreSpansIn, AreStretches, HasSize, IsSpanAt};
 ghost use Rattle.xcp_base.specs.Copied.{copied_at, copied_from, copied_packet};
 
@@ -9,6 +10,7 @@ use crate::stretch::Stretch;
 
 /// Writes a packet from a place on: a field, a timestamp, and what the spans of stretches copy of
 /// memory. It answers where the packet ends.
+#[inline]
 pub fn put_packet(
     cells: &mut [u8],
     from: usize,
@@ -34,11 +36,64 @@ pub fn put_packet(
     put_by_size(cells, from, field);
     let behind = from + field.len();
     put_by_size(cells, behind, stamp);
-    put_stretches(cells, behind + stamp.len(), memory, spans, stretches)
+    put_copied(cells, behind + stamp.len(), memory, spans, stretches)
+}
+
+/// Whether one span is all that is copied.
+fn is_one(spans: &[Span], stretches: &[Stretch]) -> bool
+    ensures yes { result ≡ true → (length spans.now ≡ 1) × (length stretches.now ≡ 1) }
+{
+    spans.len() == 1 && stretches.len() == 1
+}
+
+/// Writes what the spans of stretches copy of memory from a place on, and answers where it ends.
+#[inline]
+fn put_copied(
+    cells: &mut [u8],
+    from: usize,
+    memory: MemoryView<'_>,
+    spans: &[Span],
+    stretches: &[Stretch],
+) -> usize
+    requires inside { AreSpansIn memory stretches.now spans.now }
+    requires sizes { AreStretches stretches.now spans.now }
+    requires room { from + length (copied_from memory stretches.now spans.now) ≤ length cells.old }
+    ensures end { result ≡ from + length (copied_from memory.entry stretches.now spans.now) }
+    ensures front { take result cells.new
+        ≡ take from cells.old ++ copied_from memory.entry stretches.now spans.now }
+    ensures len { length cells.new ≡ length cells.old }
+    ensures each { All (λ (b : ℕ). b < 256)
+        (copied_from memory.entry stretches.now spans.now) }
+{
+    if is_one(spans, stretches) {
+        let (bytes, start) = memory.part(&stretches[0]);
+        return put_one(cells, from, bytes, start, &spans[0]);
+    }
+    put_stretches(cells, from, memory, spans, stretches)
+}
+
+/// Writes what a span copies of bytes that begin at `start`, from a place on, and answers where it
+/// ends.
+#[inline]
+fn put_one(cells: &mut [u8], from: usize, bytes: &[u8], start: usize, span: &Span) -> usize
+    requires inside { IsSpanAt (length bytes.now) start span.now }
+    requires room { from + length (copied_at bytes.now start (span.now ∷ [])) ≤ length cells.old }
+    ensures end { result ≡ from + length (copied_at bytes.now start (span.now ∷ [])) }
+    ensures front { take result cells.new
+        ≡ take from cells.old ++ copied_at bytes.now start (span.now ∷ []) }
+    ensures len { length cells.new ≡ length cells.old }
+    ensures each { All (λ (b : ℕ). b < 256) (copied_at bytes.now start (span.now ∷ [])) }
+{
+    let piece = &bytes[span.start - start..span.end - start];
+    put_by_size(cells, from, piece);
+    from + piece.len()
 }
 
 /// Writes what the spans of stretches copy of memory from a place on, stretch by stretch, and
 /// answers where it ends.
+///
+/// It stands out of line, so that a packet of one span is written where it is asked for.
+#[inline(never)]
 fn put_stretches(
     cells: &mut [u8],
     from: usize,
@@ -86,6 +141,9 @@ fn put_stretch(
     ensures len { length cells.new ≡ length cells.old }
     ensures each { All (λ (b : ℕ). b < 256) (copied_at bytes.now start spans.now) }
 {
+    if spans.len() == 1 {
+        return put_one(cells, from, bytes, start, &spans[0]);
+    }
     if size == 4 {
         return put_spans_of::<4>(cells, from, bytes, start, spans);
     }
@@ -155,6 +213,10 @@ fn put_number<const N: usize>(cells: &mut [u8], start: usize, bytes: &[u8; N])
 
 /// Writes what spans copy of bytes that begin at `start`, from a place on, and answers where it
 /// ends.
+///
+/// It stands out of line: it calls for the bytes of each span, and the loops over spans of one size
+/// don't.
+#[inline(never)]
 fn put_spans(cells: &mut [u8], from: usize, bytes: &[u8], start: usize, spans: &[Span]) -> usize
     requires inside { All (IsSpanAt (length bytes.now) start) spans.now }
     requires room { from + length (copied_at bytes.now start spans.now) ≤ length cells.old }
