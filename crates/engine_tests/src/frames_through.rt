@@ -88,12 +88,11 @@ fn taken(alloc: Global, take: &mut FrameTake) -> Result<Option<(Head, Vec<u8>)>,
     let Some(head) = take.look() else {
         return Ok(None);
     };
-    let mut blocks = [[0; BLOCK]; BLOCKS];
     let count = head.blocks();
     if count > BLOCKS {
         return Err(Fail::from("a record that is longer than the ring"));
     }
-    take.take(&mut blocks[..count]);
+    let blocks = take.take_into(vec![in alloc; [0; BLOCK]; count]?, 0, count);
     if count < 2 {
         return Ok(Some((head, Vec::new(alloc))));
     }

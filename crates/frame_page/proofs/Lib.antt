@@ -1,4 +1,5 @@
 pub mod UnitLemmas
+pub mod QueueLemmas
 pub mod TakeLemmas
 pub mod ShownLemmas
 pub mod SentLemmas

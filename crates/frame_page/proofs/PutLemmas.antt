@@ -1,11 +1,11 @@
 -- Frames in blocks, as a page keeps them.
-use Rattle.std.proofs.Common.{◌≡◌, ℕ, ◌+◌, ◌*◌, ◌/◌, ◌%◌, ◌<◌, ◌≤◌, List, [], ◌∷◌, ◌++◌, length, take, drop, refl, sym, ap, ◌∙◌, arith, append-nil}
+use Rattle.std.proofs.Common.{◌≡◌, ℕ, ◌*◌, ◌/◌, ◌%◌, ◌<◌, ◌≤◌, List, [], ◌∷◌, ◌++◌, length, take, drop, refl, sym, ap, ◌∙◌, arith, append-nil}
 use Rattle.std.proofs.lemmas.List.{length-take, take-take}
 use Rattle.std.proofs.lemmas.List.Elements.{All-cons, All-nil}
 use Rattle.std.specs.Simd.{first_chunks}
 use Rattle.xcp_base.specs.declared.limits.TheConstants.{MAX_ODTS_IN_ALL}
 use Rattle.channel_ring.specs.Making.{IsPacket}
-use Rattle.frame_writer.specs.Frame.{frame, unnumbered}
+use Rattle.frame_writer.specs.Frame.{frame}
 use Rattle.frame_ring.specs.Reading.{flat, packets_in}
 use Rattle.frame_ring.specs.Records.{blocks_for}
 use Rattle.frame_ring.specs.Sending.{AreFrames, AreFramesOf}

@@ -1,7 +1,8 @@
 -- What is shown of what waits, unit by unit.
 use Rattle.std.proofs.Common.{◌≡◌, ℕ, zero, suc, ◌+◌, ◌-◌, ◌*◌, ◌%◌, ◌<◌, ◌≤◌, List, [], ◌∷◌, ◌++◌, length, take, drop, refl, sym, ap, ◌∙◌, subst, arith, append-nil, append_assoc, take-append-drop}
 use Rattle.std.specs.Prelude.{All, Some, slice_get, unwrap_or}
-use Rattle.std.proofs.lemmas.List.{drop-drop, drop-take, drop_at, length-append, length-drop, length-take, take-take, take_all, take_at}
+use Rattle.std.proofs.Math.Seq.{take-add}
+use Rattle.std.proofs.lemmas.List.{drop-drop, drop_at, length-append, length-drop, length-take, take_all}
 use Rattle.std.proofs.lemmas.List.Elements.{All-append, All-head, All-nil, All-tail, All-take}
 use Rattle.channel_ring.specs.Making.{IsPacket}
 use Rattle.frame_writer.specs.Frame.{text, unnumbered}
@@ -160,66 +161,49 @@ flat-append : (xs ys : List (List ℕ)) → flat (xs ++ ys) ≡ flat xs ++ flat 
 flat-append [] ys = refl
 flat-append (x ∷ xs) ys = ap (λ r. x ++ r) (flat-append xs ys) ∙ sym (append_assoc x (flat xs) (flat ys))
 
--- the units from a block on, of those that stand in the first blocks of a page
-pub record Stands {O : Type 0} (page : List (List ℕ)) (end start : ℕ) (us : List (Unit O)) : Type 0 where
-  pub gone : length (flat (take start page)) ≡ 8 * start
-  pub within : start ≤ end
-  pub page_end : end ≤ length page
-  pub units : AreUnits (drop start (take end page)) us
+-- the units from a block on, of those that stand in these
+pub record Stands {O : Type 0} (blocks : List (List ℕ)) (start : ℕ) (us : List (Unit O)) : Type 0 where
+  pub gone : length (flat (take start blocks)) ≡ 8 * start
+  pub within : start ≤ length blocks
+  pub units : AreUnits (drop start blocks) us
 
 module _ {O : Type 0} where
-  pub stands_first : (page : List (List ℕ)) (end : ℕ) (us : List (Unit O)) → end ≤ length page → AreUnits (take end page) us → Stands page end 0 us
-  stands_first page end us h are = record { gone = refl; within = omega arith; page_end = h; units = are }
+  pub stands_first : (blocks : List (List ℕ)) (us : List (Unit O)) → AreUnits blocks us → Stands blocks 0 us
+  stands_first blocks us are = record { gone = refl; within = omega arith; units = are }
 
-  module _ (page : List (List ℕ)) (end start : ℕ) (u : Unit O) (us : List (Unit O)) (s : Stands page end start (u ∷ us)) where
+  module _ (blocks : List (List ℕ)) (start : ℕ) (u : Unit O) (us : List (Unit O)) (s : Stands blocks start (u ∷ us)) where
     abbrev region : List (List ℕ)
-    region = take u.blocks (drop start (take end page))
+    region = take u.blocks (drop start blocks)
 
-    fits : start + u.blocks ≤ end
-    fits =
-        let taken : length (take end page) ≡ end = omega (arith, length-take end page, s.page_end) in
-        omega (arith, s.within, s.units.0.long, length-take u.blocks (drop start (take end page)), length-drop start (take end page), taken)
+    fits : start + u.blocks ≤ length blocks
+    fits = omega (arith, s.within, s.units.0.long, length-take u.blocks (drop start blocks), length-drop start blocks)
 
-    -- they stand in the page as in its first blocks
-    same_region : take u.blocks (drop start page) ≡ region
-    same_region =
-        let cut : end ≡ start + (end - start) = omega (arith, s.within) in
-        sym (take-take u.blocks (end - start) (drop start page) (omega (arith, fits)))
-        ∙ ap (take u.blocks) (sym (drop-take start (end - start) page)) ∙ ap (λ n. take u.blocks (drop start (take n page))) (sym cut)
+    split_blocks : blocks ≡ take start blocks ++ (region ++ drop u.blocks (drop start blocks))
+    split_blocks = sym (take-append-drop start blocks) ∙ ap (λ b. take start blocks ++ b) (sym (take-append-drop u.blocks (drop start blocks)))
 
-    split_page : page ≡ take start page ++ (region ++ drop u.blocks (drop start page))
-    split_page = sym (take-append-drop start page) ∙ ap (λ b. take start page ++ b) (sym (take-append-drop u.blocks (drop start page)) ∙ ap (λ b. b ++ drop u.blocks (drop start page)) same_region)
-
-    front_page : take (start + u.blocks) page ≡ take start page ++ region
-    front_page =
-        let long : length (take start page) ≡ start = omega (arith, length-take start page, s.within, s.page_end) in
-        let all : length (take start page ++ region) ≡ start + u.blocks = length-append (take start page) region ∙ omega (arith, long, s.units.0.long) in
-        ap (take (start + u.blocks)) (split_page ∙ sym (append_assoc (take start page) region (drop u.blocks (drop start page)))) ∙ take_at (take start page ++ region) (drop u.blocks (drop start page)) (start + u.blocks) all
-
-    pub stands_next : Stands page end (start + u.blocks) us
+    pub stands_next : Stands blocks (start + u.blocks) us
     stands_next =
         record {
-          gone = ap (λ b. length (flat b)) front_page ∙ ap length (flat-append (take start page) region) ∙ length-append (flat (take start page)) (flat region) ∙ omega (arith, s.gone, s.units.0.bytes);
+          gone = ap (λ b. length (flat b)) (take-add start u.blocks blocks) ∙ ap length (flat-append (take start blocks) region) ∙ length-append (flat (take start blocks)) (flat region) ∙ omega (arith, s.gone, s.units.0.bytes);
           within = fits;
-          page_end = s.page_end;
-          units = subst (λ b. AreUnits b us) (drop-drop u.blocks start (take end page)) s.units.1;
+          units = subst (λ b. AreUnits b us) (drop-drop u.blocks start blocks) s.units.1;
         }
 
-    pub stands_within : 8 * start + u.at + u.len ≤ 8 * length page
-    stands_within = omega (arith, fits, s.page_end, s.units.0.within)
+    pub stands_within : 8 * start + u.at + u.len ≤ 8 * length blocks
+    stands_within = omega (arith, fits, s.units.0.within)
 
     -- the bytes of its frames
-    pub unit_bytes : take u.len (drop (8 * start + u.at) (flat page)) ≡ take u.len (drop u.at (flat region))
+    pub unit_bytes : take u.len (drop (8 * start + u.at) (flat blocks)) ≡ take u.len (drop u.at (flat region))
     unit_bytes =
-        let rest = drop u.blocks (drop start page) in
-        let all : flat page ≡ flat (take start page) ++ (flat region ++ flat rest) = ap flat split_page ∙ flat-append (take start page) (region ++ rest) ∙ ap (λ b. flat (take start page) ++ b) (flat-append region rest) in
-        let from : drop (8 * start + u.at) (flat page) ≡ drop u.at (flat region ++ flat rest) =
-        sym (drop-drop u.at (8 * start) (flat page)) ∙ ap (λ b. drop u.at (drop (8 * start) b)) all ∙ ap (drop u.at) (drop_at (flat (take start page)) (flat region ++ flat rest) (8 * start) s.gone) in
+        let rest = drop u.blocks (drop start blocks) in
+        let all : flat blocks ≡ flat (take start blocks) ++ (flat region ++ flat rest) = ap flat split_blocks ∙ flat-append (take start blocks) (region ++ rest) ∙ ap (λ b. flat (take start blocks) ++ b) (flat-append region rest) in
+        let from : drop (8 * start + u.at) (flat blocks) ≡ drop u.at (flat region ++ flat rest) =
+        sym (drop-drop u.at (8 * start) (flat blocks)) ∙ ap (λ b. drop u.at (drop (8 * start) b)) all ∙ ap (drop u.at) (drop_at (flat (take start blocks)) (flat region ++ flat rest) (8 * start) s.gone) in
         ap (take u.len) (from ∙ drop_front u.at (flat region) (flat rest) (omega (arith, s.units.0.bytes, s.units.0.within)))
         ∙ take_front u.len (drop u.at (flat region)) (flat rest) (omega (arith, length-drop u.at (flat region), s.units.0.bytes, s.units.0.within))
 
     -- and its packets
-    pub unit_packets : (laid_in (drop start (take end page)) u).packets ≡ s.units.0.frames.packets
+    pub unit_packets : (laid_in (drop start blocks) u).packets ≡ s.units.0.frames.packets
     unit_packets = read_front (drop u.at (flat region)) u.count u.len s.units.0.frames
 
 -- ---- one unit more
@@ -231,24 +215,24 @@ drop_here (y ∷ ys) (suc i) x h =
     let same : suc i + 1 ≡ suc (i + 1) = omega arith in
     drop_here ys i x h ∙ ap (λ n. x ∷ drop n (y ∷ ys)) (sym same)
 
-module _ {O : Type 0} (counter : ℕ) (all : List (List ℕ)) (before mid buffer : List ℕ) (shown front : Front) (page : List (List ℕ)) (end start : ℕ) (u : Unit O) (us : List (Unit O)) (frames : List ℕ) (from : ℕ)
-    (s : Stands page end start (u ∷ us)) (is : frames ≡ take u.len (drop (8 * start + u.at) (flat page)))
-    (sh : IsShown counter all before mid shown (packets_in (waits_in (drop start (take end page)) (u ∷ us)))) (at_counter : from % 65536 ≡ (counter + shown.count) % 65536)
+module _ {O : Type 0} (counter : ℕ) (all : List (List ℕ)) (before mid buffer : List ℕ) (shown front : Front) (blocks : List (List ℕ)) (start : ℕ) (u : Unit O) (us : List (Unit O)) (frames : List ℕ) (from : ℕ)
+    (s : Stands blocks start (u ∷ us)) (is : frames ≡ take u.len (drop (8 * start + u.at) (flat blocks)))
+    (sh : IsShown counter all before mid shown (packets_in (waits_in (drop start blocks) (u ∷ us)))) (at_counter : from % 65536 ≡ (counter + shown.count) % 65536)
     (fits : (packets : List (List ℕ)) → AreFramesOf frames u.count packets → FrontFits packets (length mid - shown.len) front)
     (bytes : (packets : List (List ℕ)) → AreFramesOf frames u.count packets → take (shown.len + front.len) buffer ≡ take shown.len mid ++ text from (take front.count packets))
     (behind : drop (shown.len + front.len) buffer ≡ drop (shown.len + front.len) mid) (long : length buffer ≡ length mid) where
   rest : List (List ℕ)
-  rest = packets_in (waits_in (drop u.blocks (drop start (take end page))) us)
+  rest = packets_in (waits_in (drop u.blocks (drop start blocks)) us)
 
   pub body_of : AreFramesOf frames u.count s.units.0.frames.packets
-  body_of = subst (λ b. AreFramesOf b u.count s.units.0.frames.packets) (sym (is ∙ unit_bytes page end start u us s)) s.units.0.frames.of
+  body_of = subst (λ b. AreFramesOf b u.count s.units.0.frames.packets) (sym (is ∙ unit_bytes blocks start u us s)) s.units.0.frames.of
 
   puts : Puts mid buffer shown.len from s.units.0.frames.packets front
   puts = record { fits = fits s.units.0.frames.packets body_of; bytes = bytes s.units.0.frames.packets body_of; behind = behind; long = long }
 
   so_far : IsShown counter all before mid shown (s.units.0.frames.packets ++ rest)
   unfolding rest
-  so_far = subst (λ qs. IsShown counter all before mid shown (qs ++ rest)) (unit_packets page end start u us s) sh
+  so_far = subst (λ qs. IsShown counter all before mid shown (qs ++ rest)) (unit_packets blocks start u us s) sh
 
   abbrev pub body_both : Front
   body_both = record { count = shown.count + front.count; len = shown.len + front.len }
@@ -259,11 +243,11 @@ module _ {O : Type 0} (counter : ℕ) (all : List (List ℕ)) (before mid buffer
   pub body_len : shown.len + front.len ≤ length before
   body_len = len_within counter all before mid buffer shown front s.units.0.frames.packets rest from so_far s.units.0.frames.of.each at_counter puts
 
-  pub body_more : u.count ≤ front.count → IsShown counter all before buffer body_both (packets_in (waits_in (drop (start + u.blocks) (take end page)) us))
+  pub body_more : u.count ≤ front.count → IsShown counter all before buffer body_both (packets_in (waits_in (drop (start + u.blocks) blocks) us))
   unfolding rest
   body_more h =
       let all_of : front.count ≡ length s.units.0.frames.packets = omega (arith, h, puts.fits.some, s.units.0.frames.of.many) in
-      subst (λ b. IsShown counter all before buffer body_both (packets_in (waits_in b us))) (drop-drop u.blocks start (take end page))
+      subst (λ b. IsShown counter all before buffer body_both (packets_in (waits_in b us))) (drop-drop u.blocks start blocks)
       (shown_more counter all before mid buffer shown front s.units.0.frames.packets rest from so_far s.units.0.frames.of.each at_counter puts all_of)
 
   pub body_last : front.count < u.count → Showed counter all before buffer body_both

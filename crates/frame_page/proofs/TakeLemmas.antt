@@ -1,5 +1,5 @@
 -- The record of a sample in a page.
-use Rattle.std.proofs.Common.{◌≡◌, ℕ, ◌+◌, ◌-◌, ◌<◌, ◌≤◌, List, [], ◌∷◌, ◌++◌, length, take, drop, refl, sym, ap, ◌∙◌, subst, arith}
+use Rattle.std.proofs.Common.{◌≡◌, ℕ, ◌+◌, ◌-◌, ◌<◌, ◌≤◌, List, [], ◌∷◌, ◌++◌, length, drop, refl, sym, ap, ◌∙◌, subst, arith}
 use Rattle.std.specs.Prelude.{Bool, true, false}
 use Rattle.std.proofs.lemmas.Bool.{false≢true}
 use Rattle.xcp_base.specs.Samples.{SampleParts}
@@ -18,6 +18,7 @@ use Rattle.std.proofs.lemmas.List.{length-append}
 use Rattle.frame_page.specs.Inner.{AreUnits, IsPage, IsUnit}
 use Rattle.frame_page.specs.Laid.{Laid}
 use Rattle.frame_page.specs.Pages.{PageState, laid_in, waits_in}
+use Rattle.frame_page.specs.Queue.{QueueState}
 use Rattle.frame_page.specs.declared.unit.Unit.{Unit}
 use Rattle.frame_page.proofs.UnitLemmas.{read_front, units_more, waits_more, whole_front}
 
@@ -92,30 +93,30 @@ keep_all n xs h =
 
 module _ {O : Type 0} where
   -- one unit more
-  pub record OneMore (blocks new : List (List ℕ)) (end n : ℕ) (units more : Buffer (Unit O)) (laid : Laid O) : Type 0 where
-    pub page : IsPage new (end + n) more
-    pub waits : waits_in (take (end + n) new) more.items ≡ waits_in (take end blocks) units.items ++ laid ∷ []
+  pub record OneMore (old new : QueueState) (units more : Buffer (Unit O)) (laid : Laid O) : Type 0 where
+    pub page : IsPage new more
+    pub waits : waits_in new.all more.items ≡ waits_in old.all units.items ++ laid ∷ []
     pub most : more.capacity ≡ units.capacity
 
-  pub one_more : (blocks new region : List (List ℕ)) (end : ℕ) (units more : Buffer (Unit O)) (u v : Unit O)
-      → IsPage blocks end units → IsUnit region u → v ≡ u → length new ≡ length blocks → take (end + length region) new ≡ take end blocks ++ region
-      → end + length region ≤ length blocks → length units.items < units.capacity → more ≡ buffer (keep_last units.capacity (units.items ++ v ∷ [])) units.capacity
-      → OneMore blocks new end (length region) units more (laid_in region u)
-  one_more blocks new region end units more u v page is same long laid fits room pushed =
+  pub one_more : (old new : QueueState) (region : List (List ℕ)) (units more : Buffer (Unit O)) (u v : Unit O)
+      → IsPage old units → IsUnit region u → v ≡ u → new ≡ record old { all = old.all ++ region }
+      → length old.all + length region ≤ old.room → length units.items < units.capacity → more ≡ buffer (keep_last units.capacity (units.items ++ v ∷ [])) units.capacity
+      → OneMore old new units more (laid_in region u)
+  one_more old new region units more u v page is same laid fits room pushed =
       let all : keep_last units.capacity (units.items ++ v ∷ []) ≡ units.items ++ u ∷ [] =
       keep_all units.capacity (units.items ++ v ∷ []) (omega (arith, room, length-append units.items (v ∷ []))) ∙ ap (λ w. units.items ++ w ∷ []) same in
       let items : more.items ≡ units.items ++ u ∷ [] = ap (λ (b : Buffer (Unit O)). b.items) pushed ∙ all in
       let most : more.capacity ≡ units.capacity = ap (λ (b : Buffer (Unit O)). b.capacity) pushed in
+      let blocks : new.all ≡ old.all ++ region = ap (λ (q : QueueState). q.all) laid in
+      let long : new.room ≡ old.room = ap (λ (q : QueueState). q.room) laid in
       record {
         page = record {
-          within = omega (arith, fits, long);
+          within = omega (arith, fits, long, ap length blocks, length-append old.all region);
           few = omega (arith, long, page.few);
-          stand = subst (λ b. AreUnits b more.items) (sym laid) (subst (AreUnits (take end blocks ++ region)) (sym items) (units_more (take end blocks) region units.items u page.stand is));
+          stand = subst (λ b. AreUnits b more.items) (sym blocks) (subst (AreUnits (old.all ++ region)) (sym items) (units_more old.all region units.items u page.stand is));
           room = omega (arith, most, room, ap length items, length-append units.items (u ∷ []));
         };
-        waits =
-            ap (λ b. waits_in b more.items) laid ∙ ap (waits_in (take end blocks ++ region)) items
-            ∙ waits_more (take end blocks) region units.items u page.stand is;
+        waits = ap (λ b. waits_in b more.items) blocks ∙ ap (waits_in (old.all ++ region)) items ∙ waits_more old.all region units.items u page.stand is;
         most = most;
       }
 

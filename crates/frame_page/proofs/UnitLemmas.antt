@@ -1,8 +1,7 @@
 -- Units, one behind another, and what stands in their blocks.
-use Rattle.std.proofs.Common.{◌≡◌, ℕ, zero, suc, ◌+◌, ◌≤◌, List, [], ◌∷◌, ◌++◌, length, take, drop, refl, sym, ap, ◌∙◌, subst, arith, take-append-drop}
+use Rattle.std.proofs.Common.{◌≡◌, ℕ, zero, suc, ◌≤◌, List, [], ◌∷◌, ◌++◌, length, take, drop, refl, sym, ap, ◌∙◌, subst, arith, take-append-drop}
 use Rattle.std.specs.Prelude.{Some, slice_get}
-use Rattle.std.proofs.lemmas.List.{length-append, length-drop, length-take, take_all}
-use borrow.Rule.Slice.PartMut.{put_mid}
+use Rattle.std.proofs.lemmas.List.{length-drop, length-take, take_all}
 use Rattle.frame_ring.specs.Reading.{flat, packets_in}
 use Rattle.frame_ring.specs.Sending.{AreFrames}
 use Rattle.frame_writer.specs.Frame.{unnumbered}
@@ -26,11 +25,6 @@ module _ {X : Type 0} where
   nothing : (xs : List X) → length xs ≡ 0 → xs ≡ []
   nothing [] h = refl
   nothing (x ∷ xs) h = absurd (omega (arith, h))
-
-  -- a part was written anew
-  pub length-put_mid : (a k : ℕ) (xs ys : List X) → a + k ≤ length xs → length ys ≡ k → length (put_mid a k xs ys) ≡ length xs
-  length-put_mid a k xs ys h e =
-      omega (arith, h, e, length-append (take a xs) (ys ++ drop k (drop a xs)), length-append ys (drop k (drop a xs)), length-drop k (drop a xs), length-drop a xs, length-take a xs)
 
   pub whole_front : (n : ℕ) (xs : List X) → length xs ≡ n → take n xs ≡ xs
   whole_front n xs h = ap (λ k. take k xs) (sym h) ∙ take_all (length xs) xs (omega arith)

@@ -4,6 +4,7 @@ use Rattle.circular_buffer.specs.Buffer.{Buffer}
 use Rattle.xcp_base.specs.declared.limits.TheConstants.{MAX_ODTS_IN_ALL}
 use Rattle.frame_ring.specs.Reading.{flat}
 use Rattle.frame_ring.specs.Sending.{AreFrames}
+use Rattle.frame_page.specs.Queue.{QueueState}
 use Rattle.frame_page.specs.declared.unit.Unit.{Unit as Frames}
 
 -- in these blocks stand the frames of a unit
@@ -20,12 +21,11 @@ abbrev pub AreUnits : {O : Type 0} → List (List ℕ) → List (Frames O) → T
 AreUnits blocks [] = blocks ≡ []
 AreUnits blocks (u ∷ us) = IsUnit (take u.blocks blocks) u × AreUnits (drop u.blocks blocks) us
 
--- the units stand in the first blocks, as many as are taken up
-pub record IsPage {O : Type 0} (blocks : List (List ℕ)) (end : ℕ) (units : Buffer (Frames O))
-    : Type 0 where
-  pub within : end ≤ length blocks
-  pub few : length blocks ≤ 0xFFFFFFFF
-  pub stand : AreUnits (take end blocks) units.items
+-- the units stand in the blocks that wait, and in no others
+pub record IsPage {O : Type 0} (queue : QueueState) (units : Buffer (Frames O)) : Type 0 where
+  pub within : length queue.all ≤ queue.room
+  pub few : queue.room ≤ 0xFFFFFFFF
+  pub stand : AreUnits queue.all units.items
   pub room : length units.items ≤ units.capacity
 
 -- the blocks of some units, and their frames

@@ -2,6 +2,7 @@
 //! frames, and of replies. They are numbered where they are handed over.
 #![tactic(auto)]
 
+mod block_queue;
 mod page;
 mod peeking;
 mod putting;

@@ -1,11 +1,11 @@
 //! What waits for the transport, in blocks.
 ghost use Rattle.std.specs.Prelude.{◌≡◌, ◌-◌, ◌<◌, ◌≤◌, [], IfOk, OnErr, OnOk, Some, false};
-ghost use Rattle.std.specs.Prelude.{length, slice_get, take, true};
+ghost use Rattle.std.specs.Prelude.{length, slice_get, true};
 ghost use Rattle.frame_page.specs.Laid.{Laid};
 
+use crate::block_queue::BlockQueue;
 use crate::unit::Unit;
 use circular_buffer::HeapCircularBuffer;
-use frame_ring::{BLOCK, Block};
 use std::alloc::{AllocError, Global};
 use std::marker::Model;
 
@@ -14,50 +14,29 @@ use std::marker::Model;
 /// Contracts see them by their packets. They are numbered as they are handed over, in a row.
 #[derive(Drop)]
 pub struct FramePage<O> {
-    // Those before `end` hold what waits, unit by unit.
-    pub(crate) blocks: Vec<Block>,
-    pub(crate) end: usize,
+    // What waits, unit by unit.
+    pub(crate) blocks: BlockQueue,
     pub(crate) units: HeapCircularBuffer<Unit<O>>,
     // CTR of the first frame that waits, or of the next one.
     pub(crate) counter: u16,
 }
 
 impl<O> Model for FramePage<O> {
-    ghost use Rattle.std.specs.Prelude.{length, take};
+    ghost use Rattle.std.specs.Prelude.{length};
     ghost use Rattle.frame_page.specs.Pages.{PageState, waits_in};
     ghost use Rattle.frame_page.specs.Inner.{IsPage};
 
     ghost Value = { PageState O };
 
     ghost view = { λ p. record {
-      waits = waits_in (take p.end p.blocks.items) p.units.items;
+      waits = waits_in p.blocks.all p.units.items;
       counter = p.counter;
-      used = p.end;
-      blocks = length p.blocks.items;
+      used = length p.blocks.all;
+      blocks = p.blocks.room;
       most = p.units.capacity;
     } };
 
-    ghost invariant = { λ p. IsPage p.blocks.items p.end p.units };
-}
-
-/// So many blocks, of which the first are copies of these.
-fn copied_in(alloc: Global, blocks: &[Block], count: usize) -> Result<Vec<Block>, AllocError>
-    requires fit { length blocks.now ≤ count }
-    ensures len { IfOk result (λ grown. length grown.items ≡ count) }
-    ensures first { IfOk result (λ grown. take (length blocks.now) grown.items ≡ blocks.now) }
-{
-    let mut grown = vec![in alloc; [0; BLOCK]; count]?;
-    copy_into(&mut grown, blocks);
-    Ok(grown)
-}
-
-/// Copies these blocks to the front of others.
-fn copy_into(grown: &mut [Block], blocks: &[Block])
-    requires fit { length blocks.now ≤ length grown.old }
-    ensures len { length grown.new ≡ length grown.old }
-    ensures first { take (length blocks.now) grown.new ≡ blocks.now }
-{
-    grown[..blocks.len()].copy_from_slice(blocks);
+    ghost invariant = { λ p. IsPage p.blocks p.units };
 }
 
 impl<O: Copy> FramePage<O> {
@@ -74,8 +53,7 @@ impl<O: Copy> FramePage<O> {
         }) }
     {
         Ok(FramePage {
-            blocks: vec![in alloc; [0; BLOCK]; blocks]?,
-            end: 0,
+            blocks: BlockQueue::new(alloc, blocks)?,
             units: HeapCircularBuffer::with_capacity(alloc, most)?,
             counter: 0,
         })
@@ -93,7 +71,7 @@ impl<O: Copy> FramePage<O> {
         if self.has_all(blocks, most) {
             return Ok(());
         }
-        let grown = copied_in(alloc, &self.blocks[..self.end], blocks)?;
+        let grown = self.blocks.grown(alloc, blocks)?;
         self.units.resize(most)?;
         self.blocks = grown;
         Ok(())
@@ -104,14 +82,14 @@ impl<O: Copy> FramePage<O> {
         ensures blocks { result ≡ true → blocks ≤ self.now.blocks }
         ensures places { result ≡ true → most ≤ self.now.most }
     {
-        blocks <= self.blocks.len() && most <= self.units.capacity()
+        blocks <= self.blocks.room() && most <= self.units.capacity()
     }
 
     /// The blocks that are free.
     pub fn free(&self) -> usize
         ensures { result ≡ self.now.blocks - self.now.used }
     {
-        self.blocks.len() - self.end
+        self.blocks.room() - self.blocks.len()
     }
 
     /// Whether one more sample or reply finds a place, if its blocks do.

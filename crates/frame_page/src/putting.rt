@@ -31,8 +31,7 @@ impl<O: Copy> FramePage<O> {
             } }
     {
         let blocks = (len + BLOCK - 1) / BLOCK;
-        let start = self.end;
-        self.blocks[start..start + blocks].copy_from_slice(first_blocks(bytes, blocks));
+        self.blocks.push(first_blocks(bytes, blocks));
         let _ = self.units.push_back(Unit {
             origin,
             blocks,
@@ -40,7 +39,6 @@ impl<O: Copy> FramePage<O> {
             len,
             count,
         });
-        self.end = start + blocks;
     }
 }
 

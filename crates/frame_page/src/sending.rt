@@ -79,8 +79,7 @@ impl<O: Copy> FramePage<O> {
         let whole = whole_units(&self.units, count);
         let left = self.units.len() - whole.units;
         self.units.truncate_front(left);
-        self.blocks.copy_within(whole.blocks..self.end, 0);
-        self.end -= whole.blocks;
+        self.blocks.let_go(whole.blocks);
         whole.left
     }
 
@@ -112,6 +111,6 @@ impl<O: Copy> FramePage<O> {
         ensures { self.new ≡ record self.old { waits = []; used = 0 } }
     {
         self.units.clear();
-        self.end = 0;
+        self.blocks.clear();
     }
 }

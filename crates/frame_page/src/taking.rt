@@ -13,8 +13,8 @@ const HEAD: usize = 16;
 
 impl<O: Copy> FramePage<O> {
     /// Takes the first item of a ring, a sample of which a look told the packets and the bytes of
-    /// the frames, and lays it out behind all that waits. Its record is popped into the page, and
-    /// no byte of it is moved again until it is handed over. It takes no memory.
+    /// the frames, and lays it out behind all that waits. Its record is popped into the page, where
+    /// it is moved only to make room for more behind it. It takes no memory.
     pub fn take_sample(&mut self, ring: &mut FrameTake, packets: u8, len: u32, origin: O)
         requires front { IsSampleFront (take_state ring.old) packets len }
         requires room { self.old.used + (2 + blocks_for len) ≤ self.old.blocks }
@@ -23,8 +23,7 @@ impl<O: Copy> FramePage<O> {
             origin }
     {
         let blocks = sample_blocks(len as usize);
-        let start = self.end;
-        ring.take(&mut self.blocks[start..start + blocks]);
+        self.blocks.take_record(ring, blocks);
         let _ = self.units.push_back(Unit {
             origin,
             blocks,
@@ -32,6 +31,5 @@ impl<O: Copy> FramePage<O> {
             len: len as usize,
             count: packets as usize,
         });
-        self.end = start + blocks;
     }
 }

@@ -6,5 +6,6 @@ pub mod LayLemmas
 pub mod HeldLemmas
 pub mod TakeLemmas
 pub mod PopLemmas
+pub mod IntoLemmas
 pub mod EndLemmas
 pub mod NumberLemmas

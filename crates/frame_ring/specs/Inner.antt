@@ -3,6 +3,7 @@ use Rattle.std.specs.Prelude.{◌≡◌, ℕ, ◌+◌, ◌-◌, ◌*◌, ◌%◌
 use Rattle.std.specs.Prelude.{drop, take}
 use Rattle.std.specs.Simd.{first_chunks}
 use Rattle.rtrb.specs.Fifo.{Allowed}
+use mathlib.Core.List.{IsPrefix}
 use Rattle.rtrb.specs.Ring.{SameConsumer, known_items, received}
 use Rattle.rtrb.specs.declared.consumer.Consumer.{Consumer}
 use Rattle.channel_ring.specs.Room.{units}
@@ -42,3 +43,17 @@ pub record PopsFront {A P : Type 0} (n : ℕ) (a b : Consumer (List ℕ) A P) : 
   pub allowed :
       Allowed (λ past block. BeginRecords (past ++ block ∷ [])) (received a)
       (take n (known_items a))
+
+-- n blocks that are known were popped into a page, from a block of it on
+pub record PopsInto {A P : Type 0} (a b : Consumer (List ℕ) A P) (at n : ℕ)
+    (page now : List (List ℕ)) : Type 0 where
+  pub ring : SameConsumer a b
+  pub len : length now ≡ length page
+  pub front : take at now ≡ take at page
+  pub behind : drop (at + n) now ≡ drop (at + n) page
+  pub many : length (take n (drop at now)) ≡ n
+  pub popped : received b ≡ received a ++ take n (drop at now)
+  pub known : IsPrefix (known_items a) (take n (drop at now) ++ known_items b)
+  pub allowed :
+      Allowed (λ past block. BeginRecords (past ++ block ∷ [])) (received a)
+      (take n (drop at now))

@@ -30,6 +30,12 @@ fn front_that_fits(frames: &[u8], count: usize, room: usize) -> Front
     ensures { (packets : List (List ℕ)) → AreFramesOf frames.now count packets
         → FrontFits packets room result }
 {
+    if frames.len() <= room {
+        return Front {
+            count,
+            len: frames.len(),
+        };
+    }
     let mut len = 0;
     for k in 0..count {
         let end = frame_end(frames, len);

@@ -1,5 +1,5 @@
 //! Items come out of a ring of frames, each as its record.
-ghost use Rattle.std.specs.Prelude.{◌≡◌, ◌<◌, ◌≤◌, [], ◌∷◌, ◌++◌, IfSome, IsNone, true, false};
+ghost use Rattle.std.specs.Prelude.{◌≡◌, ◌+◌, ◌<◌, ◌≤◌, [], ◌∷◌, ◌++◌, true, false};
 ghost use Rattle.std.specs.Prelude.{length};
 ghost use Rattle.rtrb.specs.Ring.{ConsumerLooked, SameConsumer, known_items, received};
 ghost use Rattle.rtrb.specs.Fifo.{Allowed};
@@ -8,7 +8,7 @@ ghost use Rattle.channel_ring.specs.Names.{name_of};
 ghost use Rattle.frame_ring.specs.Ends.{IsFirstHead, LooksForItems, TakesFirst};
 ghost use Rattle.frame_ring.specs.Fronts.{AreRecords, BeginRecords};
 ghost use Rattle.frame_ring.specs.Heads.{head_blocks, head_of};
-ghost use Rattle.frame_ring.specs.Inner.{PopsFront, counts};
+ghost use Rattle.frame_ring.specs.Inner.{PopsFront, PopsInto, counts};
 ghost use Rattle.frame_ring.specs.Reading.{items_in};
 ghost use Rattle.frame_ring.specs.Records.{item_props};
 
@@ -17,6 +17,7 @@ use crate::frame_left::FrameLeft;
 use crate::frame_send::FrameSend;
 use crate::head::{Head, head_of};
 use channel_ring::{Beside, TakeEnd};
+use core::mem::replace_with;
 use rtrb::Consumer;
 use std::alloc::Global;
 
@@ -31,7 +32,8 @@ pub struct FrameTake {
 }
 
 impl FrameTake {
-    ghost use Rattle.std.specs.Prelude.{◌≡◌, ℕ, ◌<◌, List, [], ◌++◌, IfSome, IsNone, length};
+    ghost use Rattle.std.specs.Prelude.{◌≡◌, ℕ, ◌+◌, ◌<◌, ◌≤◌, List, [], ◌++◌, IfSome, IsNone};
+    ghost use Rattle.std.specs.Prelude.{drop, length, take};
     ghost use Rattle.frame_ring.specs.States.{take_state};
 
     /// The take end over a consumer that popped nothing.
@@ -61,15 +63,22 @@ impl FrameTake {
         Some(head)
     }
 
-    /// Takes the first item: its record goes into these blocks, of which there are as many as it
-    /// has. It takes no memory.
-    pub fn take(&mut self, blocks: &mut [Block])
+    /// Takes the first item: its record, which has so many blocks, goes into a page, from a block of
+    /// it on. It takes no memory. The page comes back; it is handed over by value, since through a
+    /// borrow the place of the ring's blocks would be read anew for each of them.
+    pub fn take_into(&mut self, page: Vec<Block>, at: usize, blocks: usize) -> Vec<Block>
         requires some { 0 < length (take_state self.old).known }
-        requires size { length blocks.old ≡ head_blocks (head_of (take_state self.old).front) }
-        ensures { TakesFirst (take_state self.old) (take_state self.new) blocks.new }
+        requires size { blocks ≡ head_blocks (head_of (take_state self.old).front) }
+        requires room { at + blocks ≤ length page.items }
+        ensures takes { TakesFirst (take_state self.old) (take_state self.new)
+            (take blocks (drop at result.items)) }
+        ensures front { take at result.items ≡ take at page.items }
+        ensures behind { drop (at + blocks) result.items ≡ drop (at + blocks) page.items }
+        ensures len { length result.items ≡ length page.items }
     {
-        pop_blocks(&mut self.consumer, blocks);
+        let page = pop_into(&mut self.consumer, page, at, blocks);
         self.count = self.count.wrapping_add(1);
+        page
     }
 
     /// Lets the first item go, of which nobody reads more: its record is popped, which has so many
@@ -131,6 +140,34 @@ fn drop_blocks(consumer: &mut Consumer<Block, Global, WholeRecords>, count: usiz
     for _ in 0..count {
         consumer.pop_known();
     }
+}
+
+/// Pops so many blocks, which are there, into a page from a block of it on.
+fn pop_into(
+    consumer: &mut Consumer<Block, Global, WholeRecords>,
+    page: Vec<Block>,
+    at: usize,
+    count: usize,
+) -> Vec<Block>
+    requires there { count ≤ length (known_items consumer.old) }
+    requires room { at + count ≤ length page.items }
+    ensures pops { PopsInto consumer.old consumer.new at count page.items result.items }
+{
+    replace_with(consumer, (page, at, count), popped)
+}
+
+/// A consumer behind the blocks that it popped into a page.
+fn popped(
+    mut consumer: Consumer<Block, Global, WholeRecords>,
+    place: (Vec<Block>, usize, usize),
+) -> (Consumer<Block, Global, WholeRecords>, Vec<Block>)
+    requires there { place.2 ≤ length (known_items consumer) }
+    requires room { place.1 + place.2 ≤ length place.0.items }
+    ensures pops { PopsInto consumer result.0 place.1 place.2 place.0.items result.1.items }
+{
+    let (mut page, at, count) = place;
+    pop_blocks(&mut consumer, &mut page[at..at + count]);
+    (consumer, page)
 }
 
 /// Pops as many blocks, which are there.

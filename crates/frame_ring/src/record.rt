@@ -1,5 +1,5 @@
 //! Items as records: how they are written.
-ghost use Rattle.std.specs.Prelude.{◌≡◌, ℕ, ◌+◌, ◌<◌, ◌≤◌, ◌^◌, ◌∷◌, ◌++◌, length, take};
+ghost use Rattle.std.specs.Prelude.{◌≡◌, ℕ, ◌+◌, ◌<◌, ◌≤◌, ◌^◌, ◌∷◌, ◌++◌, length, replicate, take};
 ghost use Rattle.std.specs.Int.{to_le_bytes, w32, w64};
 ghost use Rattle.channel_ring.specs.Ends.{sample_item};
 ghost use Rattle.frame_ring.specs.Records.{IsItem, blocks_for, bytes_of, cost};
@@ -23,9 +23,6 @@ pub(crate) const HEAD: usize = 16;
 
 /// The blocks of the head.
 pub(crate) const HEAD_BLOCKS: usize = HEAD / BLOCK;
-
-/// Fills the last block of a record.
-const FILL: [u8; BLOCK] = [0; BLOCK];
 
 /// The blocks that have room for so many bytes.
 pub(crate) fn blocks_for(bytes: usize) -> usize
@@ -86,7 +83,40 @@ pub(crate) fn lay_sample<M: SampleMaker>(
     let head = head_of(channel, list, number, maker.count(), len as u32);
     let behind = place(out, at, &head[..]);
     let end = maker.lay_frames(out, behind);
-    place(out, end, &FILL[..blocks_for(len) * BLOCK - len]);
+    place_fill(out, end, blocks_for(len) * BLOCK - len);
+}
+
+/// Writes so many bytes of 00 from a place on, fewer than a block has, and answers where they end.
+/// Each number of them is one store or two.
+fn place_fill(out: &mut [u8], at: usize, count: usize) -> usize
+    requires few { count < 8 }
+    requires room { at + count ≤ length out.old }
+    ensures bytes { take result out.new ≡ take at out.old ++ replicate count 0 }
+    ensures end { result ≡ at + count }
+    ensures len { length out.new ≡ length out.old }
+{
+    match count {
+        0 => at,
+        1 => place_zeros::<1>(out, at),
+        2 => place_zeros::<2>(out, at),
+        3 => place_zeros::<3>(out, at),
+        4 => place_zeros::<4>(out, at),
+        5 => place_zeros::<5>(out, at),
+        6 => place_zeros::<6>(out, at),
+        _ => place_zeros::<7>(out, at),
+    }
+}
+
+/// Writes N bytes of 00 from a place on, and answers where they end.
+#[inline]
+fn place_zeros<const N: usize>(out: &mut [u8], at: usize) -> usize
+    requires room { at + N ≤ length out.old }
+    ensures bytes { take result out.new ≡ take at out.old ++ replicate N 0 }
+    ensures end { result ≡ at + N }
+    ensures len { length out.new ≡ length out.old }
+{
+    let zeros = [0; N];
+    place(out, at, &zeros[..])
 }
 
 /// Writes the record of a stop marker from a place on.

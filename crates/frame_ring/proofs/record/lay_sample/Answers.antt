@@ -1,8 +1,8 @@
-use Rattle.std.proofs.Common.{arith, ap, ◌∙◌, sym, ◌≡◌, ◌+◌, ◌-◌, ◌*◌, length, take, ℕ, subst, ◌++◌}
+use Rattle.std.proofs.Common.{arith, ap, ◌∙◌, sym, ◌≡◌, ◌+◌, ◌-◌, ◌*◌, length, take, ℕ, subst, ◌++◌, replicate}
 use Rattle.xcp_base.specs.Samples.{SampleParts}
 use Rattle.frame_ring.specs.Records.{blocks_for}
 use Rattle.frame_writer.specs.Frame.{unnumbered}
-use Rattle.frame_ring.proofs.LayLemmas.{fill_len, head_same, laid, zeros}
+use Rattle.frame_ring.proofs.LayLemmas.{head_same, laid}
 use Rattle.frame_ring.proofs.RecordLemmas.{frames_fit, sample_bytes}
 use Rattle.frame_ring.proofs.record.lay_sample.Goals as goal
 
@@ -27,26 +27,26 @@ blocks_for-requires g c =
     omega (arith, c.frames_len-len.ensures, frames_fit packets (g.met.M.SampleMaker.within c.args.maker.now))
 
 -- so many bytes fill the last block
-fills : (n blocks len : ℕ) → len ≡ n → blocks ≡ blocks_for len → length (take (blocks * 8 - len) zeros) ≡ 8 * blocks_for n - n
-fills n blocks len e f = subst (λ b. length (take (b * 8 - len) zeros) ≡ 8 * blocks_for n - n) (sym f) (fill_len len ∙ ap (λ m. 8 * blocks_for m - m) e)
+fills : (n blocks len : ℕ) → len ≡ n → blocks ≡ blocks_for len → blocks * 8 - len ≡ 8 * blocks_for n - n
+fills n blocks len e f = subst (λ b. b * 8 - len ≡ 8 * blocks_for n - n) (sym f) (omega (arith, ap (λ m. 8 * blocks_for m - m) e, e))
 
-pub place-requires : goal.place-requires
-place-requires g c =
+pub place_fill-requires : goal.place_fill-requires
+place_fill-requires g c =
     let s : SampleParts = record { channel = c.args.channel; list = c.args.list; number = c.args.number; packets = g.M.SampleMaker.packets c.args.maker.now } in
     let fill = fills (length (unnumbered s.packets)) c.blocks_for.result c.frames_len-len.result c.frames_len-len.ensures c.blocks_for.ensures in
-    record { room = omega (arith, c.requires.room, sample_bytes s, ap length c.head_of-head.ensures, c.place-behind.ensures.end, c.place-behind.ensures.len, c.lay_frames-end.ensures.end, c.lay_frames-end.ensures.len, fill) }
+    record {
+      few = omega (arith, fill);
+      room = omega (arith, c.requires.room, sample_bytes s, ap length c.head_of-head.ensures, c.place-behind.ensures.end, c.place-behind.ensures.len, c.lay_frames-end.ensures.end, c.lay_frames-end.ensures.len, fill);
+    }
 
 pub returns-clause-bytes : goal.returns-clause-bytes
 returns-clause-bytes g c =
     let s : SampleParts = record { channel = c.args.channel; list = c.args.list; number = c.args.number; packets = g.M.SampleMaker.packets c.args.maker.now } in
     let n = length (unnumbered s.packets) in
     let fill = fills n c.blocks_for.result c.frames_len-len.result c.frames_len-len.ensures c.blocks_for.ensures in
-    let zeros_are : take (c.blocks_for.result * 8 - c.frames_len-len.result) zeros ≡ take (blocks_for n * 8 - n) zeros =
-    ap (λ b. take (b * 8 - c.frames_len-len.result) zeros) c.blocks_for.ensures
-    ∙ ap (λ m. take (blocks_for m * 8 - m) zeros) c.frames_len-len.ensures in
     let here : c.place-behind.result ≡ c.args.at + 16 = c.place-behind.ensures.end ∙ ap (λ h. c.args.at + length h) c.head_of-head.ensures in
-    let there : c.place.result ≡ c.lay_frames-end.result + (8 * blocks_for n - n) = c.place.ensures.end ∙ ap (λ k. c.lay_frames-end.result + k) fill in
-    laid s c.args.at c.place-behind.result c.lay_frames-end.result c.place.result c.args.out.now c.place-behind.new.room c.lay_frames-end.new.out c.place.new.room
+    let there : c.place_fill.result ≡ c.lay_frames-end.result + (8 * blocks_for n - n) = c.place_fill.ensures.end ∙ ap (λ k. c.lay_frames-end.result + k) fill in
+    laid s c.args.at c.place-behind.result c.lay_frames-end.result c.place_fill.result c.args.out.now c.place-behind.new.room c.lay_frames-end.new.out c.place_fill.new.out
     (c.place-behind.ensures.bytes ∙ ap (λ h. take c.args.at c.args.out.now ++ h) (c.head_of-head.ensures ∙ head_same s c.count.result c.frames_len-len.result c.count.ensures c.frames_len-len.ensures))
     c.lay_frames-end.ensures.end c.lay_frames-end.ensures.front
-    (c.place.ensures.bytes ∙ ap (λ f. take c.lay_frames-end.result c.lay_frames-end.new.out ++ f) zeros_are) here there
+    (c.place_fill.ensures.bytes ∙ ap (λ k. take c.lay_frames-end.result c.lay_frames-end.new.out ++ replicate k 0) fill) here there

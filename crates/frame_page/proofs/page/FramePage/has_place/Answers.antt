@@ -1,4 +1,4 @@
-use Rattle.std.proofs.Common.{arith, ap, length, take}
+use Rattle.std.proofs.Common.{arith, ap, length}
 use Rattle.std.proofs.lemmas.Bool.Decides.{nat_tests}
 use Rattle.frame_page.specs.Pages.{PageState}
 use Rattle.frame_page.proofs.UnitLemmas.{how_many}
@@ -6,8 +6,8 @@ use Rattle.frame_page.proofs.page.FramePage.has_place.Goals as goal
 
 pub returns-clause-yes : goal.returns-clause-yes
 returns-clause-yes g c = λ e.
-    grind (arith, nat_tests, e, c.len.ensures.len, c.capacity.ensures.capacity, how_many (take c.self.inside.end c.self.inside.blocks.items) c.self.inside.units.items, ap (λ (p : PageState _). length p.waits) c.self.view_is, ap (λ (p : PageState _). p.most) c.self.view_is)
+    grind (arith, nat_tests, e, c.len.ensures.len, c.capacity.ensures.capacity, how_many c.self.inside.blocks.all c.self.inside.units.items, ap (λ (p : PageState _). length p.waits) c.self.view_is, ap (λ (p : PageState _). p.most) c.self.view_is)
 
 pub returns-clause-no : goal.returns-clause-no
 returns-clause-no g c = λ e.
-    grind (arith, nat_tests, e, c.len.ensures.len, c.capacity.ensures.capacity, how_many (take c.self.inside.end c.self.inside.blocks.items) c.self.inside.units.items, ap (λ (p : PageState _). length p.waits) c.self.view_is, ap (λ (p : PageState _). p.most) c.self.view_is)
+    grind (arith, nat_tests, e, c.len.ensures.len, c.capacity.ensures.capacity, how_many c.self.inside.blocks.all c.self.inside.units.items, ap (λ (p : PageState _). length p.waits) c.self.view_is, ap (λ (p : PageState _). p.most) c.self.view_is)
