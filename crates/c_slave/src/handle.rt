@@ -95,8 +95,17 @@ impl Handle {
     pub fn put(&mut self, alloc: Global, content: Box<Content>)
         ensures { self.new.held ≡ Some content.value }
     {
-        let _given_up = replace(self, Handle::of(content)).into_box(alloc);
+        if let Some(parts) = replace(self, Handle::of(content)).into_parts(alloc) {
+            give_up(parts);
+        }
     }
+}
+
+/// Gives up what a handle held. It stands out of line: a call puts back what it took out, so there
+/// is nothing to give up.
+#[inline(never)]
+fn give_up(parts: Parts<Content, Global>) {
+    let _given_up = parts.into_box();
 }
 
 unsafe impl Send for Handle {}

@@ -23,7 +23,7 @@ fn sample_list<S: SendEnd>(
     moment: &Moment,
     plan: &CopyPlan,
     number: u64,
-    track: Track,
+    track: &Track,
     due: bool,
 ) -> bool
     requires channel { plan.now.channel ≡ moment.now.channel }
@@ -31,11 +31,11 @@ fn sample_list<S: SendEnd>(
     requires keeps { KeepsTo (S.limit end.old) plan.now }
     ensures due { result ≡ true → due ≡ true }
     ensures sent { S.sent end.new
-        ≡ S.sent end.old ++ row_items moment.now number (row_of plan.now track due result) }
+        ≡ S.sent end.old ++ row_items moment.now number (row_of plan.now track.now due result) }
     ensures free { S.free end.old ≤ S.free end.new
-        + units S.End.cost (row_items moment.now number (row_of plan.now track due result)) }
+        + units S.End.cost (row_items moment.now number (row_of plan.now track.now due result)) }
     ensures over_free { due ≡ true → result ≡ false
-        → S.free end.old < S.End.cost (item_of moment.now plan.now number track.pending) }
+        → S.free end.old < S.End.cost (item_of moment.now plan.now number track.now.pending) }
     ensures capacity_stays { S.capacity end.new ≡ S.capacity end.old }
     ensures limit_stays { S.limit end.new ≡ S.limit end.old }
     ensures ring_stays { S.ring end.new ≡ S.ring end.old }
@@ -74,14 +74,14 @@ pub fn sample_lists<S: SendEnd>(
     let mut taken = NONE_TAKEN;
     let mut next = number;
     for (place, plan) in plans.iter().enumerate() {
-        let track = tracks[place];
+        let track = &tracks[place];
         let due = track.is_due(moment.trigger);
         let accepted = sample_list(end, moment, plan, next, track, due);
         taken.add(plan, due, accepted);
         if accepted {
             next += 1;
         }
-        tracks[place] = track.triggered(plan, due, accepted);
+        tracks[place].note(plan, due, accepted);
     }
     (taken, next)
 }

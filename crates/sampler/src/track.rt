@@ -58,32 +58,30 @@ impl Track {
     }
 
     /// The list is due at a trigger of this number.
-    pub fn is_due(self, trigger: u64) -> bool
-        ensures { result ≡ due_now trigger self }
+    pub fn is_due(&self, trigger: u64) -> bool
+        ensures { result ≡ due_now trigger self.now }
     {
         self.running && self.next == trigger
     }
 
-    /// The same after a trigger, at which the list was due or not, and a sample of it was accepted
-    /// or not.
+    /// Notes a trigger, at which the list was due or not, and a sample of it was accepted or not.
     #[tactic(auto, unfolding(crate::specs::Inner::AtTrigger::triggered))]
-    pub fn triggered(self, plan: &CopyPlan, due: bool, accepted: bool) -> Track
-        requires next { due ≡ true → self.next ≤ MAX_TRIGGERS }
-        requires counts { self.counts.due ≤ MAX_TRIGGERS }
-        requires sum { self.counts.accepted + self.counts.dropped ≡ self.counts.due }
-        ensures { result ≡ triggered plan.now self due accepted }
+    pub fn note(&mut self, plan: &CopyPlan, due: bool, accepted: bool)
+        requires next { due ≡ true → self.old.next ≤ MAX_TRIGGERS }
+        requires counts { self.old.counts.due ≤ MAX_TRIGGERS }
+        requires sum { self.old.counts.accepted + self.old.counts.dropped ≡ self.old.counts.due }
+        ensures { self.new ≡ triggered plan.now self.old due accepted }
     {
-        let mut track = self;
-        if due {
-            track.next += plan.prescaler() as u64;
-            track.pending = !accepted;
-            track.counts.due += 1;
-            if accepted {
-                track.counts.accepted += 1;
-            } else {
-                track.counts.dropped += 1;
-            }
+        if !due {
+            return;
         }
-        track
+        self.next += plan.prescaler() as u64;
+        self.pending = !accepted;
+        self.counts.due += 1;
+        if accepted {
+            self.counts.accepted += 1;
+        } else {
+            self.counts.dropped += 1;
+        }
     }
 }

@@ -8,7 +8,7 @@ use crate::list_intake::{FIRST, ListIntake};
 use crate::origin::Origin;
 use crate::step::Step;
 use frame_page::FramePage;
-use frame_ring::FrameTake;
+use frame_ring::{FrameTake, Head};
 use std::marker::Model;
 use xcp_base::{ListId, PerList};
 
@@ -39,7 +39,9 @@ impl Model for Intake {
 impl Intake {
     ghost use Rattle.std.specs.Prelude.{◌≡◌, ◌+◌, ◌<◌, ◌≤◌, [], List, length};
     ghost use Rattle.frame_ring.specs.Records.{blocks_for};
+    ghost use Rattle.frame_ring.specs.Ends.{IsFirstHead};
     ghost use Rattle.frame_ring.specs.States.{take_state};
+    ghost use Rattle.slave_outbox.specs.IntakeInner.{TakesHead};
     ghost use Rattle.slave_outbox.specs.Deeds.{Deed, Started, Stopped, Unsent, written_by};
     ghost use Rattle.slave_outbox.specs.Intakes.{GoesOn, StandsAfter};
     ghost use Rattle.slave_outbox.specs.Steps.{StepMeans};
@@ -105,6 +107,27 @@ impl Intake {
         let Some(head) = self.end.look() else {
             return Step::Nothing;
         };
+        self.take_head(head, page, room, measurement, channel)
+    }
+
+    /// The same where the first item of the ring has this head. It stands out of line, so that a
+    /// look that finds nothing is short.
+    #[inline(never)]
+    fn take_head(
+        &mut self,
+        head: Head,
+        page: &mut FramePage<Origin>,
+        room: usize,
+        measurement: u64,
+        channel: u8,
+    ) -> Step
+        requires head { IsFirstHead head self.old.end }
+        requires blocks { page.old.used + (2 + blocks_for room) ≤ page.old.blocks }
+        requires place { length page.old.waits < page.old.most }
+        ensures means { TakesHead self.old.end self.new.end self.old.lists
+            page.old page.new measurement channel room result }
+        ensures notes { Notes self.old.lists self.new.lists result }
+    {
         let step = take_first(
             &mut self.end,
             head,

@@ -28,8 +28,8 @@ sample_list-accepted-requires g c = record {
   keeps = subst (λ m. KeepsTo m c.index-plans-place.result) (sym c.loop-place.invariant.limit) (subst (KeepsTo (g.S.SendEnd.limit c.args.end.now)) (sym c.index-plans-place.is) (c.requires.keep c.loop-place.place c.index-plans-place.result (omega arith)));
 }
 
-pub triggered-requires : goal.triggered-requires
-triggered-requires g c =
+pub note-requires : goal.note-requires
+note-requires g c =
     let there : get_or c.loop-place.tracks c.loop-place.place no_track ≡ get_or c.args.tracks.now c.loop-place.place no_track = track-at c.args.plans.now c.loop-place.place c.loop-place.invariant.handled (omega arith) c.requires.room in
     let fit = fit-at (2 ^ 59) c.args.plans.now c.args.tracks.now c.loop-place.place c.index-plans-place.result c.requires.fit (omega arith) in
     record {
@@ -49,7 +49,7 @@ loop-place-preserved g c =
     let row : Row = row_of plan track due c.sample_list-accepted.result in
     let first : Stage g.row.S.Denot = first_stage c.args.end.now c.args.tracks.now c.args.number in
     let mid : Stage g.row.S.Denot = record { end = c.loop-place.end; tracks = c.loop-place.tracks; taken = c.loop-place.taken; next = c.loop-place.next } in
-    let last : Stage g.row.S.Denot = record { end = c.sample_list-accepted.new.end; tracks = set c.loop-place.tracks i c.triggered.result; taken = c.add.new.self; next = c.if-accepted.next } in
+    let last : Stage g.row.S.Denot = record { end = c.sample_list-accepted.new.end; tracks = set c.loop-place.tracks i c.note.new.self; taken = c.add.new.self; next = c.if-accepted.next } in
     let n : length (take i c.args.plans.now) ≡ i = simp length-take (omega arith) in
     let there : track ≡ get_or c.args.tracks.now i no_track = track-at c.args.plans.now i c.loop-place.invariant.handled (omega arith) c.requires.room in
     let one : suc i ≡ i + 1 = omega arith in
@@ -69,7 +69,7 @@ loop-place-preserved g c =
           (omega (arith, n, c.requires.room))
           (there ∙ ap (λ k. get_or c.args.tracks.now k no_track) (sym n))
           (c.is_due-due.ensures ∙ ap (λ (m : MomentParts). due_now m.trigger track) c.moment.view_is)
-          (ap (set c.loop-place.tracks i) c.triggered.ensures ∙ ap (λ k. set c.loop-place.tracks k (triggered plan track due c.sample_list-accepted.result)) (sym n))
+          (ap (set c.loop-place.tracks i) c.note.ensures ∙ ap (λ k. set c.loop-place.tracks k (triggered plan track due c.sample_list-accepted.result)) (sym n))
           c.sample_list-accepted.ensures.sent
           c.sample_list-accepted.ensures.free
           c.sample_list-accepted.ensures.over_free

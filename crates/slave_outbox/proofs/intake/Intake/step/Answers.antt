@@ -8,13 +8,12 @@ use Rattle.slave_outbox.proofs.intake.Intake.step.Goals as goal
 pub returns : goal.returns
 returns c =
     let p = c.args.page.now in
-    let q = c.take_first-step.new.page in
-    let step = c.take_first-step.result in
+    let q = c.take_head.new.page in
+    let step = c.take_head.result in
     record {
       means =
-          subst (λ a. StepMeans a (record { end = take_state c.take_first-step.new.end; lists = c.note_step.new.lists }) p q c.args.measurement c.args.channel c.args.room step) c.self.view_is
-          (step-means (record { end = take_state c.self.inside.end; lists = c.self.inside.lists })
-          (record { end = take_state c.take_first-step.new.end; lists = c.note_step.new.lists })
+          subst (λ a. StepMeans a c.take_head.new.self p q c.args.measurement c.args.channel c.args.room step) c.self.view_is
+          (step-means (record { end = take_state c.self.inside.end; lists = c.self.inside.lists }) c.take_head.new.self
           (take_state c.look.new.self) c.look.ensures.looked
-          p q c.args.measurement c.args.channel c.args.room step c.take_first-step.ensures.means c.note_step.ensures.notes);
+          p q c.args.measurement c.args.channel c.args.room step c.take_head.ensures.means c.take_head.ensures.notes);
     }
