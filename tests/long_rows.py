@@ -1,7 +1,7 @@
 #!/usr/bin/env python3
-"""Looks at the rows that examples/c/xcp_master.c printed of examples/c/xcp_server.c with examples/c/many_variables.h, as tests/live_rows.py does
-of those with its own variables: each value is that of the turn which stands in its row, a mark stands just where samples are missing, and
-what was polled is of a turn about then.
+"""Looks at the rows that examples/c/xcp_master.c printed of examples/c/xcp_server.c with examples/c/many_variables.h, as
+tests/live_rows.py does of those with its own variables: each value is that of the turn which stands in its row, a mark stands just where
+samples are missing, and what was polled is of a turn about then.
 
     tests/long_rows.py ROWS [TIMES]     how often it measured, else once; prints how many rows of each kind there were, and the marks"""
 
