@@ -1,0 +1,20 @@
+pub mod NumberLemmas
+pub mod BlockLemmas
+pub mod ListLemmas
+pub mod PartLemmas
+pub mod ReadLemmas
+pub mod WrittenLemmas
+pub mod SaysLemmas
+pub mod StayLemmas
+pub mod PlaceLemmas
+pub mod TableLemmas
+pub mod FormulaLemmas
+pub mod CodeLemmas
+pub mod TellLemmas
+pub mod ToldLemmas
+pub mod LaidLemmas
+pub mod PatchLemmas
+pub mod BytesLemmas
+pub mod BitsLemmas
+pub mod FoundLemmas
+mod WorkedFile

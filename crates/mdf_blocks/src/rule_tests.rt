@@ -1,0 +1,155 @@
+//! Conversions against the rules that MDF has for them.
+use crate::{PlacedText, Rule, bounds_of, keys_of, rule_of};
+use measured_values::{Conversion, TextRow, TextTable};
+use std::alloc::{AllocError, Global};
+use std::process::Abort;
+use std::test::Fail;
+
+/// Rows of a table, by their least and greatest numbers.
+type Rows = &'static [(f64, f64)];
+
+/// Places, by least and greatest number and row.
+type Places = &'static [(f64, f64, usize)];
+
+fn table(alloc: Global, rows: Rows) -> Result<Conversion, AllocError> {
+    let mut table = TextTable {
+        rows: Vec::new(alloc),
+        other: None,
+    };
+    for (least, greatest) in rows {
+        let text = String::from_str(alloc, "text")?;
+        table.rows.push(TextRow {
+            least: *least,
+            greatest: *greatest,
+            text,
+        })?;
+    }
+    Ok(Conversion::Texts(table))
+}
+
+/// That places are these.
+fn same(rt: &impl Abort, name: &str, places: &[PlacedText], wanted: Places) {
+    assert_eq!(rt; places.len(), wanted.len(), "at {name}");
+    for (place, (least, greatest, row)) in places.iter().zip(wanted) {
+        assert!(rt; place.least == *least, "at {name}");
+        assert!(rt; place.greatest == *greatest, "at {name}");
+        assert_eq!(rt; place.row, *row, "at {name}");
+    }
+}
+
+/// Tables whose rows are one number each.
+const VALUES: [(&str, Rows, Places); 3] = [
+    (
+        "rows that fall",
+        &[(3.0, 3.0), (-1.0, -1.0), (2.0, 2.0)],
+        &[(-1.0, -1.0, 1), (2.0, 2.0, 2), (3.0, 3.0, 0)],
+    ),
+    (
+        "a number twice",
+        &[(1.0, 1.0), (0.0, 0.0), (1.0, 1.0)],
+        &[(0.0, 0.0, 1), (1.0, 1.0, 0)],
+    ),
+    ("no rows", &[], &[]),
+];
+
+/// Tables with ranges, of whole numbers.
+const RANGES: [(&str, Rows, Places); 3] = [
+    (
+        "ranges that fall",
+        &[(10.0, 19.0), (0.0, 9.0)],
+        &[(0.0, 9.0, 1), (10.0, 19.0, 0)],
+    ),
+    (
+        "a range within an earlier one",
+        &[(0.0, 9.0), (3.0, 5.0), (12.0, 12.0)],
+        &[(0.0, 9.0, 0), (12.0, 12.0, 2)],
+    ),
+    (
+        "a range that is empty",
+        &[(5.0, 4.0), (1.0, 2.0)],
+        &[(1.0, 2.0, 1)],
+    ),
+];
+
+/// Tables that MDF can't say.
+const LOST: [(&str, Rows); 2] = [
+    ("ranges that overlap", &[(0.0, 9.0), (5.0, 15.0)]),
+    (
+        "a range around an earlier number",
+        &[(5.0, 5.0), (0.0, 9.0)],
+    ),
+];
+
+#[test]
+fn tables_of_texts_rise(rt: HostRuntime) -> Result<(), Fail> {
+    let alloc = rt.alloc();
+    for (name, rows, wanted) in &VALUES {
+        match rule_of(alloc, &table(alloc, rows)?, false)? {
+            Rule::Values(places) => same(&rt, name, &places, wanted),
+            _ => assert!(rt; false, "at {name}"),
+        }
+    }
+    for (name, rows, wanted) in &RANGES {
+        match rule_of(alloc, &table(alloc, rows)?, true)? {
+            Rule::Ranges(places) => same(&rt, name, &places, wanted),
+            _ => assert!(rt; false, "at {name}"),
+        }
+    }
+    Ok(())
+}
+
+#[test]
+fn what_mdf_cannot_say_is_lost(rt: HostRuntime) -> Result<(), Fail> {
+    let alloc = rt.alloc();
+    for (name, rows) in &LOST {
+        let rule = rule_of(alloc, &table(alloc, rows)?, true)?;
+        assert!(rt; matches!(rule, Rule::Lost), "at {name}");
+    }
+    let halves = table(alloc, &[(0.0, 9.0)])?;
+    assert!(rt;
+        matches!(rule_of(alloc, &halves, false)?, Rule::Lost),
+        "not whole"
+    );
+    assert!(rt;
+        matches!(rule_of(alloc, &Conversion::Other, true)?, Rule::Lost),
+        "other"
+    );
+    Ok(())
+}
+
+#[test]
+fn numbers_stand_where_mdf_has_them(rt: HostRuntime) -> Result<(), Fail> {
+    let alloc = rt.alloc();
+    let linear = Conversion::Linear {
+        factor: 0.5,
+        offset: -40.0,
+    };
+    match rule_of(alloc, &linear, true)? {
+        Rule::Linear(numbers) => assert!(rt; numbers == [-40.0, 0.5]),
+        _ => assert!(rt; false),
+    }
+    let rational = Conversion::Rational {
+        b: 2.0,
+        c: 3.0,
+        f: 4.0,
+    };
+    match rule_of(alloc, &rational, true)? {
+        Rule::Rational(numbers) => assert!(rt; numbers == [0.0, 4.0, -3.0, 0.0, 0.0, 2.0]),
+        _ => assert!(rt; false),
+    }
+    let places = [
+        PlacedText {
+            least: 0.0,
+            greatest: 9.0,
+            row: 1,
+        },
+        PlacedText {
+            least: 10.0,
+            greatest: 19.0,
+            row: 0,
+        },
+    ];
+    assert!(rt; keys_of(alloc, &places)?.as_slice() == [0.0, 10.0].as_slice());
+    assert!(rt; bounds_of(alloc, &places)?.as_slice() == [0.0, 9.0, 10.0, 19.0].as_slice());
+    Ok(())
+}

@@ -1,0 +1,10 @@
+use Rattle.std.proofs.Common.{codes, refl, arith}
+use Rattle.mdf_file.proofs.TextLemmas.{adds_text}
+use Rattle.mdf_file.proofs.texts.add_text.Goals as goal
+
+-- the text was appended, and has no byte of 0
+pub returns : goal.returns
+returns c =
+    adds_text c.args.base _ (codes "##TX") c.args.out.now.items c.push_text.new.out.items
+    c.args.text.now refl c.requires.some c.in_ok-place.ensures c.requires.aligned
+    c.in_ok-check.ensures (omega arith) c.in_ok-push_text.ensures.ok

@@ -1,0 +1,32 @@
+//! Why a file isn't written.
+use std::alloc::{AllocError, AllocFailed};
+use thiserror::Error;
+
+/// Why a file isn't written.
+#[derive(Clone, Copy, Debug, PartialEq, Eq, Error)]
+pub enum MdfFault {
+    #[error("there is not enough memory")]
+    Memory,
+    #[error("a text has a byte of 0")]
+    ZeroInText,
+    #[error("a conversion has more than 65535 texts or numbers")]
+    LongConversion,
+    #[error("the records of a group have no bytes")]
+    NoRecordBytes,
+    #[error("the bytes of a group are no whole records")]
+    PartOfRecord,
+    #[error("the file is too long")]
+    TooLong,
+}
+
+impl From<AllocError> for MdfFault {
+    fn from(_e: AllocError) -> MdfFault {
+        MdfFault::Memory
+    }
+}
+
+impl<T: Drop> From<AllocFailed<T>> for MdfFault {
+    fn from(_e: AllocFailed<T>) -> MdfFault {
+        MdfFault::Memory
+    }
+}
