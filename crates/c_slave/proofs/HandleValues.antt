@@ -22,19 +22,27 @@ abbrev pub Row : RattleType
 Row = handle.the_row
 
 module _ {M : Type 1} {𝓤 : Ura M} {𝓛 : Logic 𝓤} {K : Type 0} {Γ : List (Item 𝓤)} {G : Goal 𝓤 𝓛.H} where
+  -- a handle by value is empty, or has the box of what it holds
+  pub handle_known : K → (d : Row.Denot) (vs : List Val)
+      → (vs ≡ word d.at d.full ∷ [] → d.full ≡ false → d.held ≡ None → Seq K 𝓛 Γ G)
+      → ((b o : ℕ) (s : content.the_row.Denot) → vs ≡ word d.at d.full ∷ [] → d.full ≡ true → d.at ≡ block_ptr b o → d.held ≡ Some s
+      → Seq K 𝓛 (‵ (box_owns token content.the_row (block_ptr b o) s) ∷ Γ) G)
+      → Seq K 𝓛 (‵ (Row.own_val d vs) ∷ Γ) G
+  handle_known t d vs empty filled =
+      fsplit t $ fpick t (λ vss. fsplit t $ feq_l t (λ ev. fsplit t $ feq_l t (λ ep. fsplit t $ feq_l t (λ eb. drop t $
+      let ws : vs ≡ word d.at d.full ∷ [] =
+      subst (λ (bs : List Val). vs ≡ vstruct (of_list (ptr_val d.at ∷ (bs ++ []))) ∷ []) eb
+      (subst (λ (ps : List Val). vs ≡ vstruct (of_list (ps ++ (vss.1.0 ++ []))) ∷ []) ep ev) in
+      owns_out t content.the_row d.full d.at d.held (empty ws) (λ b o s. filled b o s ws)))))
+
   pub handle_out : K → (d : Row.Denot) (vs : List Val)
       → (vs ≡ word d.at false ∷ [] → d.held ≡ None → Seq K 𝓛 Γ G)
       → ((b o : ℕ) (s : content.the_row.Denot) → vs ≡ word (block_ptr b o) true ∷ [] → d.held ≡ Some s
       → Seq K 𝓛 (‵ (box_owns token content.the_row (block_ptr b o) s) ∷ Γ) G)
       → Seq K 𝓛 (‵ (Row.own_val d vs) ∷ Γ) G
-  handle_out t d vs empty filled =
-      fsplit t $ fpick t (λ vss. fsplit t $ feq_l t (λ ev. fsplit t $ feq_l t (λ ep. fsplit t $ feq_l t (λ eb. drop t $
-      let ws : vs ≡ word d.at d.full ∷ [] =
-      subst (λ (bs : List Val). vs ≡ vstruct (of_list (ptr_val d.at ∷ (bs ++ []))) ∷ []) eb
-      (subst (λ (ps : List Val). vs ≡ vstruct (of_list (ps ++ (vss.1.0 ++ []))) ∷ []) ep ev) in
-      owns_out t content.the_row d.full d.at d.held
-      (λ ef is. empty (subst (λ (y : Bool). vs ≡ word d.at y ∷ []) ef ws) is)
-      (λ b o s ef e is. filled b o s (subst (λ (p : Ptr). vs ≡ word p true ∷ []) e (subst (λ (y : Bool). vs ≡ word d.at y ∷ []) ef ws)) is)))))
+  handle_out t d vs empty filled = handle_known t d vs
+      (λ ws ef is. empty (subst (λ (y : Bool). vs ≡ word d.at y ∷ []) ef ws) is)
+      (λ b o s ws ef e is. filled b o s (subst (λ (p : Ptr). vs ≡ word p true ∷ []) e (subst (λ (y : Bool). vs ≡ word d.at y ∷ []) ef ws)) is)
 
   handle_in : K → (at : Ptr) (full : Bool) (held : Option content.the_row.Denot)
       → Step K 𝓛 (‵ (Row.own_val (record { at = at; full = full; held = held }) (word at full ∷ [])) ∷ Γ) G

@@ -1,5 +1,6 @@
 pub mod Bytes
 pub mod Ends
+pub mod HandleLends
 pub mod Measurements
 pub mod OnHandles
 pub mod Openings

@@ -64,12 +64,10 @@ pub fn receive_by(
     ensures { Receives handle.old.held handle.new.held bytes.now (given_by clock memory.now)
         taken.old taken.new result }
 {
-    let Some(mut held) = handle.take(alloc) else {
+    let Some(content) = handle.content() else {
         return Status::Empty;
     };
-    let status = receive_in(alloc, held.as_mut(), bytes, clock, memory, taken);
-    handle.put(alloc, held);
-    status
+    receive_in(alloc, content, bytes, clock, memory, taken)
 }
 
 /// Hears the frames of a datagram.
@@ -121,12 +119,10 @@ pub fn datagram_by(
     ensures { HearsDatagrams handle.old.held handle.new.held bytes.now (given_by clock memory.now)
         taken.old taken.new result }
 {
-    let Some(mut held) = handle.take(alloc) else {
+    let Some(content) = handle.content() else {
         return Status::Empty;
     };
-    let status = datagram_in(alloc, held.as_mut(), bytes, clock, memory, taken);
-    handle.put(alloc, held);
-    status
+    datagram_in(alloc, content, bytes, clock, memory, taken)
 }
 
 /// Hangs up by a slave, if this is one.
@@ -141,13 +137,11 @@ fn hang_up_in(content: &mut Content) -> Status
 }
 
 /// Hangs up by the slave of a handle.
-pub fn hang_up_by(alloc: Global, handle: &mut Handle) -> Status
+pub fn hang_up_by(handle: &mut Handle) -> Status
     ensures { HangsUpSlave handle.old.held handle.new.held result }
 {
-    let Some(mut held) = handle.take(alloc) else {
+    let Some(content) = handle.content() else {
         return Status::Empty;
     };
-    let status = hang_up_in(held.as_mut());
-    handle.put(alloc, held);
-    status
+    hang_up_in(content)
 }

@@ -1,5 +1,7 @@
 //! The handle of a slave or a task, which C owns.
 ghost use Rattle.std.specs.Prelude.{◌≡◌, MatchOption};
+ghost use Rattle.std.specs.Borrow.{sem};
+ghost use Rattle.std.specs.Option.{option_copied_mut};
 ghost use Rattle.std.specs.declared.option.Option.{Option};
 ghost use Rattle.std.specs.declared.option.Option.TheVariants.{None, Some};
 ghost use Rattle.c_slave.specs.declared.content.Content.{Content as ContentOf};
@@ -31,6 +33,8 @@ impl Model for Handle {
 }
 
 impl Handle {
+    ghost use Rattle.c_slave.specs.HandleLends.{lends_held};
+
     /// An empty handle.
     fn none() -> Handle
         ensures { result.held ≡ None }
@@ -82,6 +86,17 @@ impl Handle {
         Some(parts.into_box())
     }
 
+    /// What is held, to work on in its place; or nothing, if the handle is empty.
+    pub fn content(&mut self) -> Option<&mut Content>
+        ensures* writes_back { sem 𝓛 (lends_held self.entry result) }
+        ensures value { option_copied_mut result ≡ self.old.held }
+    {
+        if !self.full {
+            return None;
+        }
+        Some(unsafe { &mut *(self.at as *mut Content) })
+    }
+
     /// Takes out what is held, and leaves the handle empty.
     pub fn take(&mut self, alloc: Global) -> Option<Box<Content>>
         ensures taken { MatchOption result (self.old.held ≡ None)
@@ -101,7 +116,7 @@ impl Handle {
     }
 }
 
-/// Gives up what a handle held. It stands out of line: a call puts back what it took out, so there
+/// Gives up what a handle held. It stands out of line: a call puts into an empty handle, so there
 /// is nothing to give up.
 #[inline(never)]
 fn give_up(parts: Parts<Content, Global>) {

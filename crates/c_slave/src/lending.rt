@@ -73,14 +73,11 @@ fn lend_of(alloc: Global, content: &mut Content, c: usize, task: &mut Handle) ->
 pub fn give_task(alloc: Global, slave: &mut Handle, c: u16, task: &mut Handle) -> Status
     ensures { GivesTask slave.old.held slave.new.held c task.old.held task.new.held result }
 {
-    if let Some(held) = task.take(alloc) {
-        task.put(alloc, held);
+    if let Some(_) = task.content() {
         return Status::InUse;
     }
-    let Some(mut held) = slave.take(alloc) else {
+    let Some(content) = slave.content() else {
         return Status::Empty;
     };
-    let status = lend_of(alloc, held.as_mut(), c as usize, task);
-    slave.put(alloc, held);
-    status
+    lend_of(alloc, content, c as usize, task)
 }

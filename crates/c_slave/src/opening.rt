@@ -52,8 +52,7 @@ pub fn open_slave(
     ensures { OpensSlave slave.old.held slave.new.held
         asked.now segments.now events.now a2l.now result }
 {
-    if let Some(held) = slave.take(alloc) {
-        slave.put(alloc, held);
+    if let Some(_) = slave.content() {
         return Status::InUse;
     }
     match opened_on_heap(alloc, asked, segments, events, a2l) {

@@ -7,7 +7,6 @@ use crate::content::Content;
 use crate::handle::Handle;
 use c_engine::Status;
 use slave_lending::LendingSlave;
-use std::alloc::Global;
 
 /// Shows what waits, in the front of a buffer in which one frame finds room, whichever waits first.
 fn peek(slave: &mut LendingSlave, buffer: &mut [u8], len: &mut usize) -> Status
@@ -35,17 +34,15 @@ fn peek_in(content: &mut Content, buffer: &mut [u8], len: &mut usize) -> Status
 }
 
 /// Shows what waits at the slave of a handle.
-pub fn peek_by(alloc: Global, handle: &mut Handle, buffer: &mut [u8], len: &mut usize) -> Status
+pub fn peek_by(handle: &mut Handle, buffer: &mut [u8], len: &mut usize) -> Status
     ensures { PeeksSlave handle.old.held handle.new.held
         (record { buffer = buffer.old; len = len.old })
         (record { buffer = buffer.new; len = len.new }) result }
 {
-    let Some(mut held) = handle.take(alloc) else {
+    let Some(content) = handle.content() else {
         return Status::Empty;
     };
-    let status = peek_in(held.as_mut(), buffer, len);
-    handle.put(alloc, held);
-    status
+    peek_in(content, buffer, len)
 }
 
 /// What was shown was sent, at a slave, if this is one.
@@ -60,13 +57,11 @@ fn sent_in(content: &mut Content) -> Status
 }
 
 /// What was shown was sent, at the slave of a handle.
-pub fn sent_by(alloc: Global, handle: &mut Handle) -> Status
+pub fn sent_by(handle: &mut Handle) -> Status
     ensures { SendsSlave handle.old.held handle.new.held result }
 {
-    let Some(mut held) = handle.take(alloc) else {
+    let Some(content) = handle.content() else {
         return Status::Empty;
     };
-    let status = sent_in(held.as_mut());
-    handle.put(alloc, held);
-    status
+    sent_in(content)
 }

@@ -8,7 +8,6 @@ use crate::handle::Handle;
 use crate::state_out::StateOut;
 use c_engine::Status;
 use slave_lending::LendingSlave;
-use std::alloc::Global;
 
 /// What a slave is about.
 fn state_of(slave: &LendingSlave) -> StateOut
@@ -33,13 +32,11 @@ fn tell_state(content: &Content, state: &mut StateOut) -> Status
 }
 
 /// Tells what the slave of a handle is about.
-pub fn state_by(alloc: Global, handle: &mut Handle, state: &mut StateOut) -> Status
+pub fn state_by(handle: &mut Handle, state: &mut StateOut) -> Status
     ensures { TellsState handle.old.held handle.new.held state.old state.new result }
 {
-    let Some(held) = handle.take(alloc) else {
+    let Some(content) = handle.content() else {
         return Status::Empty;
     };
-    let status = tell_state(held.as_ref(), state);
-    handle.put(alloc, held);
-    status
+    tell_state(content, state)
 }

@@ -38,7 +38,6 @@ fn trigger_in(content: &mut Content, memory: &[&[u8]], stamp: u32, taken: &mut T
 
 /// Takes a trigger by the task of a handle.
 pub fn trigger_task_by(
-    alloc: Global,
     handle: &mut Handle,
     memory: &[&[u8]],
     stamp: u32,
@@ -47,12 +46,10 @@ pub fn trigger_task_by(
     ensures { TriggersHeldTask handle.old.held handle.new.held (parts memory.now) stamp
         taken.old taken.new result }
 {
-    let Some(mut held) = handle.take(alloc) else {
+    let Some(content) = handle.content() else {
         return Status::Empty;
     };
-    let status = trigger_in(held.as_mut(), memory, stamp, taken);
-    handle.put(alloc, held);
-    status
+    trigger_in(content, memory, stamp, taken)
 }
 
 /// Whether a task is held.

@@ -2,6 +2,7 @@
 ghost use Rattle.std.specs.Prelude.{◌≡◌, ℕ, ◌+◌, ◌≤◌, List, ◌++◌, length, take};
 ghost use Rattle.channel_ring.specs.Making.{ArePackets, FitsSample, by_value};
 ghost use Rattle.frame_writer.specs.Frame.{unnumbered};
+ghost use Rattle.xcp_base.specs.declared.limits.TheConstants.{SLACK};
 
 use xcp_base::Packets;
 
@@ -25,9 +26,10 @@ pub trait SampleMaker {
         ensures { sample.new ≡ packets self.now };
 
     /// Writes the frames, each with a CTR of 0, from a place on, and answers where they end. It
-    /// takes no memory.
+    /// takes no memory. Up to `SLACK` bytes behind them may be written over, so that words can be
+    /// written whole; what they are is not said.
     fn lay_frames(&self, out: &mut [u8], at: usize) -> usize
-        requires room { at + length (unnumbered (packets self.now)) ≤ length out.old }
+        requires room { at + length (unnumbered (packets self.now)) + SLACK ≤ length out.old }
         ensures end { result ≡ at + length (unnumbered (packets self.now)) }
         ensures front { take result out.new ≡ take at out.old ++ unnumbered (packets self.now) }
         ensures len { length out.new ≡ length out.old };

@@ -49,6 +49,10 @@ one_frame_more f k =
     ap unnumbered (map-range_with_len_more f 0 k k (omega arith)) ∙ unnumbered-append (map f (range_with_len 0 k)) (f k ∷ [])
     ∙ ap (λ b. unnumbered (map f (range_with_len 0 k)) ++ b) (append-nil (frame 0 (f k)))
 
+-- the frame of ODT 0
+pub first_frame : (f : ℕ → List ℕ) → unnumbered (map f (range_with_len 0 1)) ≡ frame 0 (f 0)
+first_frame f = append-nil (frame 0 (f 0))
+
 -- of short packets they have few
 pub lens_short : (conf : Configuration) (k : ℕ) → ((j : ℕ) → j < k → packet_len conf.form (is_stamped conf.mode) j (entries_len conf j) ≤ MAX_PACKET) → lens_upto conf k ≤ k * (4 + MAX_PACKET)
 lens_short conf zero short = omega arith
@@ -62,6 +66,10 @@ header_is n h =
     let third : n / 65536 % 256 ≡ 0 = omega (arith, h) in
     let fourth : n / 16777216 % 256 ≡ 0 = omega (arith, h) in
     ap (λ c. n % 256 ∷ n / 256 % 256 ∷ c ∷ n / 16777216 % 256 ∷ []) third ∙ ap (λ d. n % 256 ∷ n / 256 % 256 ∷ 0 ∷ d ∷ []) fourth
+
+-- three parts were written, each behind the one before
+pub put_in_turn : (a b c d x y z : List ℕ) → b ≡ a ++ x → c ≡ b ++ y → d ≡ c ++ z → d ≡ a ++ (x ++ (y ++ z))
+put_in_turn a b c d x y z e f g = g ∙ ap (λ l. l ++ z) (f ∙ ap (λ l. l ++ y) e) ∙ append_assoc (a ++ x) y z ∙ append_assoc a x (y ++ z)
 
 -- a packet was written, and then its header in front of it
 pub framed : (old packed framed_by q header : List ℕ) (at end : ℕ) → length header ≡ 4 → end ≡ at + 4 + length q → at + 4 ≤ length old

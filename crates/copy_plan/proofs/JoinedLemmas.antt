@@ -6,12 +6,12 @@ use Rattle.std.proofs.lemmas.List.{drop-drop}
 use Rattle.std.proofs.lemmas.List.Sums.{sum_by-cons}
 use Rattle.std.proofs.lemmas.List.Elements.{All-nil, All-cons, All-head, All-tail}
 use Rattle.std.proofs.lemmas.Bool.Decides.{eqb_tells}
-use Rattle.xcp_base.specs.declared.span.Span.{Span}
+use Rattle.copy_plan.specs.declared.span.Span.{Span}
 use Rattle.daq_store.specs.declared.entry.Entry.{Entry}
 use Rattle.copy_plan.specs.Config.{OdtEntry, IsInside, written_entries}
 use Rattle.copy_plan.specs.Packet.{elements}
 use Rattle.copy_plan.specs.Copies.{continues, copies_needed}
-use Rattle.xcp_base.specs.Copied.{copied, IsSpanInside}
+use Rattle.copy_plan.specs.Inner.Spans.{copied, IsSpanInside}
 use Rattle.copy_plan.specs.Inner.Joined.{with_bytes, joined_spans}
 use Rattle.copy_plan.specs.Inner.Stretched.{LiesSomewhere}
 use Rattle.segments.specs.declared.segment.Segment.{Segment}

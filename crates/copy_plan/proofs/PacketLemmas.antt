@@ -30,12 +30,15 @@ pub length-timestamp : (plan : ListPlan) (k stamp : ℕ) → length (timestamp p
 length-timestamp plan k stamp =
     elim (k == 0 && plan.stamped) as (λ v. ◌≡◌ {A = ℕ} (length (if v then stamp_field plan.form.stamp stamp else [])) (if v then stamp_bytes plan.form.stamp else 0)) [ true ↦ length-stamp_field plan.form.stamp stamp | false ↦ refl ]
 
+-- the elements have the length that the plan has for them
+pub elements_long : (plan : ListPlan) (image : List ℕ) (k : ℕ) → length image ≡ image_len plan.segments → IsPlan plan → k < length plan.odts → length (elements image (odt plan k)) ≡ elements_len plan k
+elements_long plan image k h is here = length-elements image (odt plan k) (rw h (is.inside k here))
+
 -- the packet has the length that the plan has for it
 pub packet_has_len : (plan : ListPlan) (image : List ℕ) (stamp k : ℕ) (overload : Bool) → length image ≡ image_len plan.segments → IsPlan plan → k < length plan.odts → length (packet plan image stamp overload k) ≡ packet_len plan.form plan.stamped k (elements_len plan k)
 unfolding packet
 packet_has_len plan image stamp k overload h is here =
-    let inside : All (IsInside (length image)) (odt plan k) = rw h (is.inside k here) in
-    omega (arith, length-append (field plan k overload) (timestamp plan k stamp ++ elements image (odt plan k)), length-append (timestamp plan k stamp) (elements image (odt plan k)), length-id_field plan.form.id plan.first_pid plan.list k overload, length-timestamp plan k stamp, length-elements image (odt plan k) inside)
+    omega (arith, length-append (field plan k overload) (timestamp plan k stamp ++ elements image (odt plan k)), length-append (timestamp plan k stamp) (elements image (odt plan k)), length-id_field plan.form.id plan.first_pid plan.list k overload, length-timestamp plan k stamp, elements_long plan image k h is here)
 
 pub length-packet : (plan : ListPlan) (image : List ℕ) (stamp k : ℕ) (overload : Bool) → length image ≡ image_len plan.segments → IsPlan plan → IsByValue plan → k < length plan.odts → length (packet plan image stamp overload k) ≤ 64
 length-packet plan image stamp k overload h is fits here = omega (arith, fits.short k here, packet_has_len plan image stamp k overload h is here)

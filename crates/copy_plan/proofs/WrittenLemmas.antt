@@ -15,7 +15,7 @@ use Rattle.segments.proofs.ShownLemmas.{Lie, lies_if}
 use Rattle.daq_store.specs.declared.entry.Entry.{Entry}
 use Rattle.daq_store.specs.Configuration.{is_within, entry_len}
 use Rattle.copy_plan.specs.Config.{OdtEntry, placed, written_entries, IsInside, IsReadable}
-use Rattle.copy_plan.specs.Inner.Stretched.{AreEndsOf}
+use Rattle.copy_plan.specs.Inner.Stretched.{AreEndsOf, IsNear}
 
 -- how place i of some entries is shown
 abbrev pub shown : ℕ → List Segment → List (Option Entry) → ℕ → Option OdtEntry
@@ -83,6 +83,14 @@ lies_at_place c segments x at e =
     let p = placed_at c segments x.extension x.address x.size at e in
     let is : unwrap_or (image_place c segments x.extension x.address x.size) 0 ≡ at = ap (λ (o : Option ℕ). unwrap_or o 0) e in
     record { segment = p.segment; lies = rw is (placed_lies c segments x.extension x.address x.size at p) }
+
+-- its place is near the start of its segment, as its address has 32 bits
+pub near_place : (c : ℕ) (segments : List Segment) (x : Entry) (at : ℕ) → image_place c segments x.extension x.address x.size ≡ Some at → x.address < 4294967296 → IsNear c segments at
+near_place c segments x at e small =
+    let p = placed_at c segments x.extension x.address x.size at e in
+    let l = placed_lies c segments x.extension x.address x.size at p in
+    let here : Lie c segments at at p.segment = record { opened = l.opened; begins = l.begins; ends = omega (arith, l.ends) } in
+    record { segment = p.segment; lies = lies_if c segments at at p.segment here; near = omega (arith, p.is, small) }
 
 pub lie-within : (c : ℕ) (segments : List Segment) (es : List (Option Entry)) → list_all (is_within c segments) es ≡ true → All (LiesAt c segments) (written_entries c segments es)
 lie-within c segments [] h = All-nil (LiesAt c segments)

@@ -2,5 +2,6 @@
 pub mod Filled
 pub mod Joined
 pub mod Kept
+pub mod Spans
 pub mod Stretched
 pub mod Lens

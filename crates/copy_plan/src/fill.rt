@@ -58,7 +58,7 @@ impl CopyPlan {
         if k >= self.odts() {
             return None;
         }
-        Some(self.copies_of(k).as_slice().len())
+        Some(self.copies_of(k).offsets().len())
     }
 
     /// The copies that the packet of an ODT is made of: its entries, neighbours joined.
@@ -104,7 +104,7 @@ impl CopyPlan {
             &field[..self.form.id.field_len()],
             &stamp[..self.stamp_len(k)],
             memory,
-            copies.as_slice(),
+            copies.offsets(),
             copies.stretches(),
         ) else {
             unreachable!();

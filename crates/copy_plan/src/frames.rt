@@ -1,7 +1,7 @@
 //! The frames of a sample, laid out where they are wanted, with CTR 0.
 ghost use Rattle.std.specs.Prelude.{◌≡◌, ℕ, ◌+◌, ◌*◌, ◌<◌, ◌≤◌, Bool, true, List, ◌++◌, length};
 ghost use Rattle.std.specs.Prelude.{take};
-ghost use Rattle.xcp_base.specs.declared.limits.TheConstants.{MAX_ODTS_IN_ALL, MAX_PACKET};
+ghost use Rattle.xcp_base.specs.declared.limits.TheConstants.{MAX_ODTS_IN_ALL, MAX_PACKET, SLACK};
 ghost use Rattle.segments.specs.declared.segment.Segment.{Segment};
 ghost use Rattle.daq_store.specs.Configuration.{is_ready};
 ghost use Rattle.copy_plan.specs.Config.{plan_of};
@@ -13,8 +13,7 @@ ghost use Rattle.copy_plan.specs.Packet.{packet, packets};
 
 use crate::plan::{CopyPlan, HEADER, frames_len_of};
 use daq_store::ListConf;
-use frame_writer::place;
-use xcp_base::{MemoryView, put_packet};
+use xcp_base::{MemoryView, put_copied, put_first, put_number};
 
 /// The bytes of the frames of a sample of a DAQ list, as each plan of it has them.
 pub fn sample_len(conf: &ListConf) -> usize
@@ -40,7 +39,8 @@ impl CopyPlan {
     }
 
     /// Lays the frames of a sample out, from `at` on, each with a CTR of 0, and answers where they
-    /// end. They have the packets that `fill_into` makes.
+    /// end. They have the packets that `fill_into` makes. Up to `SLACK` bytes behind them are
+    /// written over.
     pub fn lay_frames(
         &self,
         out: &mut [u8],
@@ -50,20 +50,25 @@ impl CopyPlan {
         overload: bool,
     ) -> usize
         requires memory { FitsMemory self.now.channel self.now.segments memory }
-        requires room { at + frames_len self.now ≤ length out.old }
+        requires room { at + frames_len self.now + SLACK ≤ length out.old }
         ensures end { result ≡ at + frames_len self.now }
         ensures front { take result out.new ≡ take at out.old ++ unnumbered (packets self.now
             (image_in self.now.channel self.now.segments memory.entry) stamp overload) }
         ensures len { length out.new ≡ length out.old }
     {
-        let mut end = at;
-        for k in 0..self.odts() {
+        let odts = self.odts();
+        // ODT 0 by itself, so that no other is looked at for a timestamp and an overload indication
+        let mut end = self.lay_frame(out, at, memory, stamp, overload, 0);
+        for k in 1..odts {
             end = self.lay_frame(out, end, memory, stamp, overload, k);
         }
         end
     }
 
     /// Lays the frame of an ODT out.
+    ///
+    /// It is compiled into each call: where `k` is not 0, nothing asks for a timestamp.
+    #[inline(always)]
     fn lay_frame(
         &self,
         out: &mut [u8],
@@ -75,28 +80,21 @@ impl CopyPlan {
     ) -> usize
         requires memory { FitsMemory self.now.channel self.now.segments memory }
         requires odt { k < length self.now.odts }
-        requires room { at + frame_len self.now k ≤ length out.old }
+        requires room { at + frame_len self.now k + SLACK ≤ length out.old }
         ensures end { result ≡ at + frame_len self.now k }
         ensures front { take result out.new ≡ take at out.old ++ frame 0 (packet self.now
             (image_in self.now.channel self.now.segments memory.entry) stamp overload k) }
         ensures len { length out.new ≡ length out.old }
     {
-        let field = self.field(k, overload);
-        let stamp = stamp.to_le_bytes();
-        let copies = self.copies_of(k);
         let body = at + HEADER;
-        let end = put_packet(
-            out,
-            body,
-            &field[..self.form.id.field_len()],
-            &stamp[..self.stamp_len(k)],
-            memory,
-            copies.as_slice(),
-            copies.stretches(),
-        );
+        // a whole word each, for what comes next to write over
+        let stamp_at = put_first(out, body, self.field(k, overload), self.form.id.field_len());
+        let copies_at = put_first(out, stamp_at, stamp.to_le_bytes(), self.stamp_len(k));
+        let copies = self.copies_of(k);
+        let end = put_copied(out, copies_at, memory, copies.offsets(), copies.stretches());
         // LEN, and a CTR of 0
         let header = ((end - body) as u32).to_le_bytes();
-        place(out, at, &header[..]);
+        put_number(out, at, &header);
         end
     }
 }

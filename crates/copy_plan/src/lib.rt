@@ -5,6 +5,7 @@ mod fill;
 mod frames;
 pub mod laws;
 mod plan;
+mod span;
 mod spans;
 
 pub use frames::sample_len;

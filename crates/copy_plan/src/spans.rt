@@ -1,25 +1,31 @@
-//! The entries of an ODT as spans of an image of all memory: entries that touch are copied as one.
-ghost use Rattle.std.specs.Prelude.{◌≡◌, ◌==◌, ◌<◌, ◌&&◌, IfOk, All, true, length};
+//! The entries of an ODT as spans of memory: entries that touch are copied as one.
+ghost use Rattle.std.specs.Prelude.{◌≡◌, ◌==◌, ◌-◌, ◌<◌, ◌≤◌, ◌&&◌, IfOk, All, true, length};
 ghost use Rattle.std.specs.List.{list_all};
 ghost use Rattle.segments.specs.Image.{HaveImage};
 ghost use Rattle.daq_store.specs.Configuration.{entry_of, is_within, odt_entries};
 ghost use Rattle.copy_plan.specs.Config.{written_entries};
 ghost use Rattle.copy_plan.specs.Inner.Joined.{joined_spans};
-ghost use Rattle.copy_plan.specs.Inner.Stretched.{ArePlaced, AreEndsOf, IsStretchAt, LiesSomewhere};
+ghost use Rattle.copy_plan.specs.Inner.Stretched.{AreEndsOf, ArePlaced, BeginsNear, IsNear};
+ghost use Rattle.copy_plan.specs.Inner.Stretched.{IsStretchAt, LiesSomewhere};
 
+use crate::span::Span;
 use daq_store::ListConf;
 use segments::{Segment, image_place, image_start, segment_at};
 use std::alloc::{AllocError, Global};
 use std::marker::Model;
+use std::snapshot::Snapshot;
+use xcp_base::Stretch;
 use xcp_base::limits::MAX_CHANNELS;
-use xcp_base::{Span, Stretch};
 
-/// The spans of one ODT: its entries in their order, neighbours joined; and the stretches of spans
-/// of one size in one segment.
+/// The spans of one ODT: its entries in their order, neighbours joined. Of each its offset in its
+/// segment is kept, and the stretches of those of one size in one segment.
+///
+/// Contracts see the spans themselves, as parts of an image of all memory; these have no bytes.
 #[derive(Drop)]
 pub struct Spans {
-    spans: Vec<Span>,
+    offsets: Vec<u32>,
     stretches: Vec<Stretch>,
+    spans: Snapshot<Vec<Span>>,
 }
 
 impl Model for Spans {
@@ -27,7 +33,11 @@ impl Model for Spans {
 
     ghost Value = { SpansState };
 
-    ghost view = { λ a. record { spans = a.spans.items; stretches = a.stretches.items } };
+    ghost view = { λ a. record {
+      spans = a.spans.value.items;
+      stretches = a.stretches.items;
+      offsets = a.offsets.items;
+    } };
 }
 
 impl Spans {
@@ -50,15 +60,19 @@ impl Spans {
         ensures placed { IfOk result (ArePlaced channel segments.now) }
     {
         let spans = spans_of(alloc, conf, odt, channel, segments)?;
-        let stretches = stretches_of(alloc, &spans, channel, segments)?;
-        Ok(Spans { spans, stretches })
+        let (stretches, offsets) = stretches_of(alloc, &spans, channel, segments)?;
+        Ok(Spans {
+            offsets,
+            stretches,
+            spans: Snapshot::of(&spans),
+        })
     }
 
-    /// The spans in their order.
-    pub fn as_slice(&self) -> &[Span]
-        ensures { result.now ≡ self.now.spans }
+    /// The offsets of the spans in their order.
+    pub fn offsets(&self) -> &[u32]
+        ensures { result.now ≡ self.now.offsets }
     {
-        &self.spans
+        &self.offsets
     }
 
     /// The stretches of the spans.
@@ -84,6 +98,7 @@ fn spans_of(
     ensures spans { IfOk result (λ spans. spans.items
         ≡ joined_spans (written_entries channel segments.now (odt_entries conf.now odt))) }
     ensures lie { IfOk result (λ spans. All (LiesSomewhere channel segments.now) spans.items) }
+    ensures near { IfOk result (λ spans. All (BeginsNear channel segments.now) spans.items) }
     ensures some { IfOk result (λ spans. 0 < length spans.items) }
 {
     let mut spans = Vec::with_capacity(alloc, conf.entries(odt))?;
@@ -113,7 +128,9 @@ fn ends_of(
     requires channel { channel < MAX_CHANNELS }
     requires there { entry < length (odt_entries conf.now odt) }
     requires within { list_all (is_within channel segments.now) (odt_entries conf.now odt) ≡ true }
-    ensures { AreEndsOf channel segments.now (entry_of conf.now odt entry) result }
+    ensures ends { AreEndsOf channel segments.now (entry_of conf.now odt entry) result }
+    // An address has 32 bits.
+    ensures near { IsNear channel segments.now result.0 }
 {
     let Some(written) = conf.written(odt, entry) else {
         unreachable!();
@@ -126,24 +143,28 @@ fn ends_of(
     (start, start + size)
 }
 
-/// The stretches of some spans: neighbours of one size in one segment are in one.
+/// The stretches of some spans, in which neighbours of one size in one segment are, and the offset
+/// of each span.
 fn stretches_of(
     alloc: Global,
     spans: &[Span],
     channel: u8,
     segments: &[Segment],
-) -> Result<Vec<Stretch>, AllocError>
+) -> Result<(Vec<Stretch>, Vec<u32>), AllocError>
     requires image { HaveImage segments.now }
     requires channel { channel < MAX_CHANNELS }
     requires some { 0 < length spans.now }
     requires lie { All (LiesSomewhere channel segments.now) spans.now }
-    ensures { IfOk result (λ stretches. ArePlaced channel segments.now
-        (record { spans = spans.now; stretches = stretches.items })) }
+    requires near { All (BeginsNear channel segments.now) spans.now }
+    ensures { IfOk result (λ both. ArePlaced channel segments.now
+        (record { spans = spans.now; stretches = both.0.items; offsets = both.1.items })) }
 {
     let mut stretches = Vec::with_capacity(alloc, spans.len())?;
+    let mut offsets = Vec::with_capacity(alloc, spans.len())?;
     let mut stretch = stretch_at(&spans[0], channel, segments);
     for span in spans {
         let next = stretch_at(span, channel, segments);
+        offsets.push(offset_in(span, next.start))?;
         if !goes_on(stretch, next) {
             stretches.push(stretch)?;
             stretch = next;
@@ -151,7 +172,7 @@ fn stretches_of(
         stretch.count += 1;
     }
     stretches.push(stretch)?;
-    Ok(stretches)
+    Ok((stretches, offsets))
 }
 
 /// A stretch of no spans, of the size of a span and in its segment.
@@ -170,6 +191,15 @@ fn stretch_at(span: &Span, channel: u8, segments: &[Segment]) -> Stretch
         size: span.end - span.start,
         count: 0,
     }
+}
+
+/// Where a span begins in the segment that begins at `start`.
+fn offset_in(span: &Span, start: usize) -> u32
+    requires begins { start ≤ span.now.start }
+    requires near { span.now.start - start < 4294967296 }
+    ensures { result ≡ span.now.start - start }
+{
+    (span.start - start) as u32
 }
 
 /// Whether spans of one stretch and those of the next are of one size, and in one segment.

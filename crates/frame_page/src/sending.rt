@@ -63,8 +63,28 @@ impl<O: Copy> FramePage<O> {
         } }
     {
         let left = self.let_go(count);
-        self.counter = self.counter.wrapping_add((count % 65536) as u16);
+        self.pass(count);
         self.cut(left);
+    }
+
+    /// All frames that wait, which are so many, were sent. The next one gets the CTR behind theirs.
+    pub fn sent_all(&mut self, count: usize)
+        requires { count ≡ length (packets_in self.old.waits) }
+        ensures { self.new ≡ record self.old {
+          waits = [];
+          counter = (self.old.counter + count) % 65536;
+          used = 0;
+        } }
+    {
+        self.pass(count);
+        self.discard();
+    }
+
+    /// The next frame gets the CTR behind those of so many frames.
+    fn pass(&mut self, count: usize)
+        ensures { self.new ≡ record self.old { counter = (self.old.counter + count) % 65536 } }
+    {
+        self.counter = self.counter.wrapping_add((count % 65536) as u16);
     }
 
     /// Lets the units go that lie within the first so many frames, and returns how many frames of

@@ -71,7 +71,7 @@ bytes_cost x =
     omega (arith, f.exactly, length-blocks f.blocks (bytes_of x) f.exactly)
 
 -- the record of an item, written behind what is held back
-more_held : (x : Item) (old new : List ℕ) (held blocks room : ℕ) → 8 * room ≡ length old → length new ≡ length old → blocks ≡ cost x → held + blocks ≤ room
+more_held : (x : Item) (old new : List ℕ) (held blocks room : ℕ) → 8 * room ≤ length old → length new ≡ length old → blocks ≡ cost x → held + blocks ≤ room
     → take (held * 8 + length (bytes_of x)) new ≡ take (held * 8) old ++ bytes_of x → held_back (held + blocks) new ≡ held_back held old ++ record_of x
 more_held x old new held blocks room long same is fits laid =
     let at : held * 8 ≡ 8 * held = omega arith in
@@ -132,7 +132,7 @@ pub holds : (x : Item) → IsItem x → (pushed : List (List ℕ)) (old new : Li
     → take (held * 8 + length (bytes_of x)) new ≡ take (held * 8) old ++ bytes_of x → IsSend pushed new (held + blocks) room free
 holds x h pushed old new held blocks room free s same is fits there laid =
     let whole : AreRecords (pushed ++ held_back (held + blocks) new) =
-    same_records _ _ (append_assoc pushed (held_back held old) (record_of x) ∙ ap (λ b. pushed ++ b) (sym (more_held x old new held blocks room s.long same is fits laid))) (more_records (pushed ++ held_back held old) x h s.whole) in
+    same_records _ _ (append_assoc pushed (held_back held old) (record_of x) ∙ ap (λ b. pushed ++ b) (sym (more_held x old new held blocks room (omega (arith, s.long)) same is fits laid))) (more_records (pushed ++ held_back held old) x h s.whole) in
     record {
       whole = whole;
       fits = fits;
@@ -145,7 +145,7 @@ holds x h pushed old new held blocks room free s same is fits there laid =
 pub holds_sent : (x : Item) → IsItem x → (pushed : List (List ℕ)) (old new : List ℕ) (held blocks room free : ℕ) → IsSend pushed old held room free → length new ≡ length old → blocks ≡ cost x → held + blocks ≤ room
     → take (held * 8 + length (bytes_of x)) new ≡ take (held * 8) old ++ bytes_of x → items_in (pushed ++ held_back (held + blocks) new) ≡ items_in (pushed ++ held_back held old) ++ x ∷ []
 holds_sent x h pushed old new held blocks room free s same is fits laid =
-    ap (λ b. items_in (pushed ++ b)) (more_held x old new held blocks room s.long same is fits laid) ∙ ap items_in (sym (append_assoc pushed (held_back held old) (record_of x)))
+    ap (λ b. items_in (pushed ++ b)) (more_held x old new held blocks room (omega (arith, s.long)) same is fits laid) ∙ ap items_in (sym (append_assoc pushed (held_back held old) (record_of x)))
     ∙ read_more (pushed ++ held_back held old) x h s.whole
 
 pub made_state : (old : SendState) (xs : List Item) (x : Item) (blocks free : ℕ) → xs ≡ old.sent ++ x ∷ [] → free ≡ old.free - blocks

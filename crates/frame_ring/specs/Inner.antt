@@ -1,11 +1,12 @@
 -- Inner: what the ends of a ring of frames keep to.
-use Rattle.std.specs.Prelude.{◌≡◌, ℕ, ◌+◌, ◌-◌, ◌*◌, ◌%◌, ◌^◌, ◌≤◌, List, [], ◌∷◌, ◌++◌, length}
+use Rattle.std.specs.Prelude.{◌≡◌, ℕ, ◌+◌, ◌*◌, ◌%◌, ◌^◌, ◌≤◌, List, [], ◌∷◌, ◌++◌, length}
 use Rattle.std.specs.Prelude.{drop, take}
 use Rattle.std.specs.Simd.{first_chunks}
 use Rattle.rtrb.specs.Fifo.{Allowed}
 use mathlib.Core.List.{IsPrefix}
 use Rattle.rtrb.specs.Ring.{SameConsumer, known_items, received}
 use Rattle.rtrb.specs.declared.consumer.Consumer.{Consumer}
+use Rattle.xcp_base.specs.declared.limits.TheConstants.{SLACK}
 use Rattle.channel_ring.specs.Room.{units}
 use Rattle.frame_ring.specs.Fronts.{AreRecords, BeginRecords}
 use Rattle.frame_ring.specs.Reading.{items_in}
@@ -16,13 +17,13 @@ use Rattle.frame_ring.specs.declared.limits.TheConstants.{MIN_ROOM}
 abbrev pub held_back : ℕ → List ℕ → List (List ℕ)
 held_back held buffer = first_chunks 8 held buffer
 
--- a send end that pushed these blocks, whose buffer has room for so many, of which so many are held
--- back, while so many are known to be free
+-- a send end that pushed these blocks, whose buffer has room for so many, and for what may be
+-- written over behind them; so many are held back, while so many are known to be free
 pub record IsSend (pushed : List (List ℕ)) (buffer : List ℕ) (held room free : ℕ) : Type 0 where
   pub whole : AreRecords (pushed ++ held_back held buffer)
   pub fits : held ≤ room
   pub least : MIN_ROOM ≤ room
-  pub long : 8 * room ≡ length buffer
+  pub long : 8 * room + SLACK ≡ length buffer
   pub there : held ≤ free
   pub costs : units cost (items_in (pushed ++ held_back held buffer)) ≡ length pushed + held
 

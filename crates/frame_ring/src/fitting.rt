@@ -61,6 +61,17 @@ pub fn front_len(frames: &[u8], count: usize, first: usize) -> usize
     len
 }
 
+/// Numbers a frame that is alone.
+fn number_one(frame: &mut [u8], counter: u16)
+    requires frame { AreFrames frame.old 1 }
+    ensures numbered { (packets : List (List ℕ)) → AreFramesOf frame.old 1 packets
+        → frame.new ≡ text counter packets }
+    ensures len { length frame.new ≡ length frame.old }
+{
+    let counter = counter.to_le_bytes();
+    place(frame, 2, &counter[..]);
+}
+
 /// Numbers so many frames, the first of which gets this counter.
 fn number(frames: &mut [u8], count: usize, counter: u16)
     requires frames { AreFrames frames.old count }
@@ -69,6 +80,10 @@ fn number(frames: &mut [u8], count: usize, counter: u16)
         → frames.new ≡ text counter packets }
     ensures len { length frames.new ≡ length frames.old }
 {
+    if count == 1 {
+        number_one(frames, counter);
+        return;
+    }
     let mut at = 0;
     for k in 0..count {
         let end = frame_end(frames, at);

@@ -1,6 +1,6 @@
 //! A ring of frames is made, and its two ends are handed out.
-ghost use Rattle.std.specs.Prelude.{◌≡◌, ◌≢◌, ◌*◌, ◌/◌, ◌%◌, ◌<◌, ◌≤◌, ◌⊎◌, ◌↔◌, IfOk, IsErrOf};
-ghost use Rattle.std.specs.Prelude.{length, true};
+ghost use Rattle.std.specs.Prelude.{◌≡◌, ◌≢◌, ◌+◌, ◌*◌, ◌/◌, ◌%◌, ◌<◌, ◌≤◌, ◌⊎◌, ◌↔◌, IfOk};
+ghost use Rattle.std.specs.Prelude.{IsErrOf, length, true};
 ghost use Rattle.frame_ring.specs.Ends.{AreEnds};
 ghost use Rattle.frame_ring.specs.States.{send_state, take_state};
 
@@ -11,6 +11,7 @@ use crate::limits::{MAX_FRAME_RING, MIN_FRAME_RING, MIN_ROOM};
 use channel_ring::RingFault;
 use rtrb::RingBuffer;
 use std::alloc::{AllocError, Global};
+use xcp_base::limits::SLACK;
 
 /// A lock-free ring of frames, in which each item costs the blocks of its record. Its two ends may
 /// be in two threads.
@@ -51,10 +52,10 @@ fn is_bad(cap: usize) -> bool
     cap < MIN_FRAME_RING || cap > MAX_FRAME_RING || cap % BLOCK != 0
 }
 
-/// Room for so many blocks.
+/// Room for so many blocks, and for what may be written over behind them.
 fn buffer_of(alloc: Global, blocks: usize) -> Result<Vec<u8>, AllocError>
     requires few { blocks ≤ MAX_FRAME_RING / BLOCK }
-    ensures { IfOk result (λ buffer. length buffer.items ≡ blocks * 8) }
+    ensures { IfOk result (λ buffer. length buffer.items ≡ blocks * 8 + SLACK) }
 {
-    vec![in alloc; 0; blocks * BLOCK]
+    vec![in alloc; 0; blocks * BLOCK + SLACK]
 }

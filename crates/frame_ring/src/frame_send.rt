@@ -18,6 +18,7 @@ use crate::record::{lay_marker, lay_sample, sample_cost};
 use channel_ring::{SampleMaker, SendEnd};
 use rtrb::Producer;
 use std::alloc::Global;
+use xcp_base::limits::SLACK;
 use xcp_base::{ChannelId, ListId, StopMark};
 
 /// The send end of a ring of frames.
@@ -28,7 +29,7 @@ use xcp_base::{ChannelId, ListId, StopMark};
 #[derive(Drop)]
 pub struct FrameSend {
     pub(crate) producer: Producer<Block, Global, WholeRecords>,
-    // The records that are held back stand first.
+    // The records that are held back stand first; behind all that find room are `SLACK` bytes.
     buffer: Vec<u8>,
     // Their blocks.
     held: usize,
@@ -54,21 +55,22 @@ impl FrameSend {
     ghost use Rattle.std.specs.Prelude.{◌≡◌, ◌+◌, ◌*◌, ◌/◌, ◌%◌, ◌<◌, ◌≤◌, ◌-◌, [], ◌∷◌, ◌++◌};
     ghost use Rattle.frame_ring.specs.States.{send_state};
 
-    /// The send end over a producer that pushed nothing, with room for a record of so many blocks.
+    /// The send end over a producer that pushed nothing. Its buffer has whole blocks and `SLACK`
+    /// bytes.
     pub(crate) fn new(producer: Producer<Block, Global, WholeRecords>, buffer: Vec<u8>) -> FrameSend
         requires nothing_pushed { sent producer ≡ [] }
-        requires whole { length buffer.items % 8 ≡ 0 }
-        requires least { 8 * MIN_ROOM ≤ length buffer.items }
+        requires whole { (length buffer.items - SLACK) % 8 ≡ 0 }
+        requires least { 8 * MIN_ROOM + SLACK ≤ length buffer.items }
         ensures { send_state result ≡ record {
           sent = [];
           held = 0;
           free = known_free producer;
           capacity = producer_capacity producer;
-          room = length buffer.items / 8;
+          room = (length buffer.items - SLACK) / 8;
           ring = name_of producer.end;
         } }
     {
-        let room = buffer.len() / BLOCK;
+        let room = (buffer.len() - SLACK) / BLOCK;
         FrameSend {
             producer,
             buffer,

@@ -6,11 +6,11 @@ ghost use Rattle.frame_ring.specs.Records.{IsItem, blocks_for, bytes_of, cost};
 ghost use Rattle.frame_writer.specs.Frame.{unnumbered};
 ghost use Rattle.xcp_base.specs.Samples.{SampleParts};
 ghost use Rattle.xcp_base.specs.declared.item.Item.TheVariants.{Marker, Sample};
+ghost use Rattle.xcp_base.specs.declared.limits.TheConstants.{SLACK};
 
 use crate::block::BLOCK;
 use channel_ring::SampleMaker;
-use frame_writer::place;
-use xcp_base::{ChannelId, ListId, StopMark};
+use xcp_base::{ChannelId, ListId, StopMark, put_number};
 
 /// The first byte of a sample's record.
 pub(crate) const SAMPLE: u8 = 1;
@@ -49,20 +49,31 @@ pub(crate) fn sample_cost<M: SampleMaker>(maker: &M) -> usize
     sample_blocks(maker.frames_len())
 }
 
-/// The head of a sample's record.
-fn head_of(channel: ChannelId, list: ListId, number: u64, count: u8, len: u32) -> [u8; HEAD]
-    ensures { result
-        ≡ 1 ∷ channel ∷ list ∷ count ∷ (to_le_bytes w32 len ++ to_le_bytes w64 number) }
+/// Writes the head of a sample's record from a place on, as two numbers, and answers where it ends.
+#[inline]
+fn lay_head(
+    out: &mut [u8],
+    at: usize,
+    channel: ChannelId,
+    list: ListId,
+    number: u64,
+    count: u8,
+    len: u32,
+) -> usize
+    requires room { at + 16 ≤ length out.old }
+    ensures bytes { take result out.new ≡ take at out.old
+        ++ 1 ∷ channel ∷ list ∷ count ∷ (to_le_bytes w32 len ++ to_le_bytes w64 number) }
+    ensures end { result ≡ at + 16 }
+    ensures len { length out.new ≡ length out.old }
 {
-    let (channel, list) = (channel.byte(), list.byte());
     let [a, b, c, d] = len.to_le_bytes();
-    let [e, f, g, h, i, j, k, l] = number.to_le_bytes();
-    [
-        SAMPLE, channel, list, count, a, b, c, d, e, f, g, h, i, j, k, l,
-    ]
+    let front = u64::from_le_bytes([SAMPLE, channel.byte(), list.byte(), count, a, b, c, d]);
+    put_number(out, at, &front.to_le_bytes());
+    put_number(out, at + 8, &number.to_le_bytes());
+    at + HEAD
 }
 
-/// Writes the record of a sample from a place on.
+/// Writes the record of a sample from a place on. Up to `SLACK` bytes behind it are written over.
 pub(crate) fn lay_sample<M: SampleMaker>(
     out: &mut [u8],
     at: usize,
@@ -72,7 +83,7 @@ pub(crate) fn lay_sample<M: SampleMaker>(
     maker: &M,
 )
     requires room { at + length (bytes_of (sample_item channel list number (M.packets maker.now)))
-        ≤ length out.old }
+        + SLACK ≤ length out.old }
     ensures bytes { take (at
         + length (bytes_of (sample_item channel list number (M.packets maker.now)))) out.new
         ≡ take at out.old ++ bytes_of (sample_item channel list number (M.packets maker.now)) }
@@ -80,43 +91,20 @@ pub(crate) fn lay_sample<M: SampleMaker>(
     ensures len { length out.new ≡ length out.old }
 {
     let len = maker.frames_len();
-    let head = head_of(channel, list, number, maker.count(), len as u32);
-    let behind = place(out, at, &head[..]);
+    let behind = lay_head(out, at, channel, list, number, maker.count(), len as u32);
     let end = maker.lay_frames(out, behind);
-    place_fill(out, end, blocks_for(len) * BLOCK - len);
+    lay_fill(out, end);
 }
 
-/// Writes so many bytes of 00 from a place on, fewer than a block has, and answers where they end.
-/// Each number of them is one store or two.
-fn place_fill(out: &mut [u8], at: usize, count: usize) -> usize
-    requires few { count < 8 }
-    requires room { at + count ≤ length out.old }
-    ensures bytes { take result out.new ≡ take at out.old ++ replicate count 0 }
-    ensures end { result ≡ at + count }
-    ensures len { length out.new ≡ length out.old }
-{
-    match count {
-        0 => at,
-        1 => place_zeros::<1>(out, at),
-        2 => place_zeros::<2>(out, at),
-        3 => place_zeros::<3>(out, at),
-        4 => place_zeros::<4>(out, at),
-        5 => place_zeros::<5>(out, at),
-        6 => place_zeros::<6>(out, at),
-        _ => place_zeros::<7>(out, at),
-    }
-}
-
-/// Writes N bytes of 00 from a place on, and answers where they end.
+/// Writes a block of 00 from a place on: as much of it as is wanted fills a record's last block.
 #[inline]
-fn place_zeros<const N: usize>(out: &mut [u8], at: usize) -> usize
-    requires room { at + N ≤ length out.old }
-    ensures bytes { take result out.new ≡ take at out.old ++ replicate N 0 }
-    ensures end { result ≡ at + N }
+fn lay_fill(out: &mut [u8], at: usize)
+    requires room { at + BLOCK ≤ length out.old }
+    ensures bytes { (count : ℕ) → count ≤ BLOCK
+        → take (at + count) out.new ≡ take at out.old ++ replicate count 0 }
     ensures len { length out.new ≡ length out.old }
 {
-    let zeros = [0; N];
-    place(out, at, &zeros[..])
+    put_number(out, at, &[0; BLOCK]);
 }
 
 /// Writes the record of a stop marker from a place on.
@@ -127,5 +115,5 @@ pub(crate) fn lay_marker(out: &mut [u8], at: usize, marker: StopMark)
     ensures len { length out.new ≡ length out.old }
 {
     let bytes = [MARKER, marker.channel(), marker.list(), 0, 0, 0, 0, 0];
-    place(out, at, &bytes[..]);
+    put_number(out, at, &bytes);
 }

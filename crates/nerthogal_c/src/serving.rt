@@ -101,11 +101,11 @@ pub extern "C" fn ng_slave_datagram(
 ///
 /// Refused if there is no slave.
 #[unsafe(no_mangle)]
-pub extern "C" fn ng_slave_hang_up(alloc: Global, slave: &mut Handle) -> u32
+pub extern "C" fn ng_slave_hang_up(slave: &mut Handle) -> u32
     ensures { (status : StatusOf) × (result ≡ number_of status)
         × HangsUpSlave slave.old.held slave.new.held status }
 {
-    hang_up_by(alloc, slave).number()
+    hang_up_by(slave).number()
 }
 
 /// Puts as many whole frames that wait as find room into the front of the buffer, and their length
@@ -113,29 +113,24 @@ pub extern "C" fn ng_slave_hang_up(alloc: Global, slave: &mut Handle) -> u32
 ///
 /// Refused in this order: no slave, a buffer of less than 544 bytes.
 #[unsafe(no_mangle)]
-pub extern "C" fn ng_slave_peek(
-    alloc: Global,
-    slave: &mut Handle,
-    buffer: &mut [u8],
-    len: &mut usize,
-) -> u32
+pub extern "C" fn ng_slave_peek(slave: &mut Handle, buffer: &mut [u8], len: &mut usize) -> u32
     ensures { (status : StatusOf) × (result ≡ number_of status)
         × PeeksSlave slave.old.held slave.new.held
         (record { buffer = buffer.old; len = len.old })
         (record { buffer = buffer.new; len = len.new }) status }
 {
-    peek_by(alloc, slave, buffer, len).number()
+    peek_by(slave, buffer, len).number()
 }
 
 /// What the last peek showed was sent.
 ///
 /// Refused if there is no slave.
 #[unsafe(no_mangle)]
-pub extern "C" fn ng_slave_sent(alloc: Global, slave: &mut Handle) -> u32
+pub extern "C" fn ng_slave_sent(slave: &mut Handle) -> u32
     ensures { (status : StatusOf) × (result ≡ number_of status)
         × SendsSlave slave.old.held slave.new.held status }
 {
-    sent_by(alloc, slave).number()
+    sent_by(slave).number()
 }
 
 /// Tells what a slave is about: whether a master is connected, whether some list runs, and how many
@@ -143,11 +138,11 @@ pub extern "C" fn ng_slave_sent(alloc: Global, slave: &mut Handle) -> u32
 ///
 /// Refused if there is no slave.
 #[unsafe(no_mangle)]
-pub extern "C" fn ng_slave_status(alloc: Global, slave: &mut Handle, state: &mut StateOut) -> u32
+pub extern "C" fn ng_slave_status(slave: &mut Handle, state: &mut StateOut) -> u32
     ensures { (status : StatusOf) × (result ≡ number_of status)
         × TellsState slave.old.held slave.new.held state.old state.new status }
 {
-    state_by(alloc, slave, state).number()
+    state_by(slave, state).number()
 }
 
 /// Closes a slave, and tells the account of its session: a line for each DAQ list that there may

@@ -18,7 +18,6 @@ use std::alloc::Global;
 /// slave ordered is done then too.
 #[unsafe(no_mangle)]
 pub extern "C" fn ng_task_trigger(
-    alloc: Global,
     task: &mut Handle,
     memory: &[&[u8]],
     stamp: u32,
@@ -28,7 +27,7 @@ pub extern "C" fn ng_task_trigger(
         × TriggersHeldTask task.old.held task.new.held (parts memory.now) stamp
         taken.old taken.new status }
 {
-    trigger_task_by(alloc, task, memory, stamp, taken).number()
+    trigger_task_by(task, memory, stamp, taken).number()
 }
 
 /// Finishes a task, and gives what is left of it back to its slave. The handle is empty then.

@@ -1,17 +1,17 @@
 //! What one trigger does, list by list.
-ghost use Rattle.std.specs.Prelude.{◌≡◌, ◌+◌, ◌^◌, ◌<◌, ◌≤◌, true, false, ◌++◌, length};
+ghost use Rattle.std.specs.Prelude.{◌≡◌, ◌+◌, ◌^◌, ◌<◌, ◌≤◌, true, false, ◌++◌, length, take};
 ghost use Rattle.xcp_base.specs.declared.limits.TheConstants.{MAX_TRIGGERS};
 ghost use Rattle.channel_ring.specs.Room.{units};
 ghost use Rattle.sampler.specs.Limits.{AllKeepTo, KeepsTo};
 ghost use Rattle.sampler.specs.State.{ArePlansOf};
 ghost use Rattle.sampler.specs.Inner.AtTrigger.{HandlesLists, first_stage};
 ghost use Rattle.sampler.specs.Inner.AtTrigger.{item_of, row_items, row_of};
-ghost use Rattle.sampler.specs.Inner.Fits.{TracksFit};
+ghost use Rattle.sampler.specs.Inner.Fits.{NoneDueBefore, TracksFit};
 
 use crate::moment::Moment;
 use crate::offering::offer_sample;
 use crate::taken::{NONE_TAKEN, Taken};
-use crate::track::Track;
+use crate::track::{NEVER, Track};
 use channel_ring::SendEnd;
 use copy_plan::CopyPlan;
 
@@ -46,8 +46,8 @@ fn sample_list<S: SendEnd>(
     offer_sample(end, moment, plan, number, track.pending)
 }
 
-/// What a trigger does for all lists of a channel: the sets of those due, accepted and dropped, and
-/// the next sample's number.
+/// What a trigger does for all lists of a channel: the sets of those due, accepted and dropped, the
+/// next sample's number, and a trigger before which none of the lists is due again.
 ///
 /// `number` is that of the first sample.
 pub fn sample_lists<S: SendEnd>(
@@ -56,7 +56,7 @@ pub fn sample_lists<S: SendEnd>(
     number: u64,
     plans: &[CopyPlan],
     tracks: &mut [Track],
-) -> (Taken, u64)
+) -> (Taken, u64, u64)
     requires plans_of { ArePlansOf moment.now.channel moment.now.segments plans.now }
     requires keep { AllKeepTo (S.limit end.old) plans.now }
     requires room { length plans.now ≤ length tracks.old }
@@ -67,12 +67,14 @@ pub fn sample_lists<S: SendEnd>(
         (first_stage end.old tracks.old number)
         (record { end = end.new; tracks = tracks.new; taken = result.0; next = result.1 }) }
     ensures next { result.1 ≤ number + length plans.now }
+    ensures soonest { NoneDueBefore result.2 (take (length plans.now) tracks.new) }
     ensures capacity_stays { S.capacity end.new ≡ S.capacity end.old }
     ensures limit_stays { S.limit end.new ≡ S.limit end.old }
     ensures ring_stays { S.ring end.new ≡ S.ring end.old }
 {
     let mut taken = NONE_TAKEN;
     let mut next = number;
+    let mut soonest = NEVER;
     for (place, plan) in plans.iter().enumerate() {
         let track = &tracks[place];
         let due = track.is_due(moment.trigger);
@@ -82,6 +84,7 @@ pub fn sample_lists<S: SendEnd>(
             next += 1;
         }
         tracks[place].note(plan, due, accepted);
+        soonest = soonest.min(tracks[place].next);
     }
-    (taken, next)
+    (taken, next, soonest)
 }

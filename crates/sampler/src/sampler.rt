@@ -259,7 +259,7 @@ impl<S: SendEnd> Sampler<S> {
             memory,
             stamp,
         };
-        let (taken, accepted) = sample_lists(
+        let (taken, accepted, soonest) = sample_lists(
             &mut self.end,
             &moment,
             self.accepted,
@@ -269,7 +269,7 @@ impl<S: SendEnd> Sampler<S> {
         self.end.publish();
         self.accepted = accepted;
         self.triggers += 1;
-        self.soonest = self.lists.soonest();
+        self.soonest = soonest;
         taken
     }
 

@@ -1,6 +1,7 @@
 -- The rings of the measurements before the newest are looked at.
-use Rattle.std.proofs.Common.{◌≡◌, ◌≢◌, ◌⊎◌, ℕ, ◌+◌, ◌<◌, ◌≤◌, true, List, [], length, refl, sym, ap, ◌∙◌, subst, arith, inl, inr}
-use Rattle.std.specs.Prelude.{Option, Some, None}
+use Rattle.std.proofs.Common.{◌≡◌, ◌≢◌, ◌⊎◌, ℕ, ◌+◌, ◌<◌, ◌≤◌, Bool, true, false, List, [], length, refl, sym, ap, ◌∙◌, subst, arith, inl, inr}
+use Rattle.std.specs.Prelude.{Option, Some, None, slice_get}
+use Rattle.std.specs.Option.{is_some}
 use Rattle.std.proofs.lemmas.Bool.Decides.{eqb_tells, leb_tells}
 use Rattle.std.proofs.lemmas.Option.{slice_get_past}
 use Rattle.slave_outbox.specs.declared.step.Step.{Step}
@@ -201,3 +202,19 @@ gone-all f s c was is so_far =
 pub gone-still : (f a b : SlaveState) → KeepsOlder a b → a.acts ≤ b.acts → LetsGo f a → LetsGo f b
 gone-still f a b keeps grows (inl spent) = inl (still-spent a b grows spent)
 gone-still f a b keeps grows (inr goes) = inr (λ k. at-to f a b k (keeps k) (goes k))
+
+-- where there is no such part, nothing is to be let go
+pub none-there : (f : SlaveState) (c : ℕ) → older_at f c ≡ None → LetsGoThere f f c
+none-there f c none = record {
+  there = inr (inl (looks-any 0 1024 (older_at f c) (older_at f c) (omega arith) (ap known_of none) (looks-same (older_at f c))));
+  others = λ k other. refl;
+}
+
+not-some : {X : Type 0} (o : Option X) → is_some o ≡ false → o ≡ None
+not-some None away = refl
+not-some (Some x) away = absurd (cc)
+
+pub none-older : (f : SlaveState) (c : ℕ) (has : Bool) → c < length f.channels → ((x : ChannelState) → slice_get f.channels c ≡ Some x → has ≡ is_some x.older) → has ≡ false → older_at f c ≡ None
+none-older f c has low tells away =
+    let (x, was) = some-at f.channels c low in
+    ap older_part was ∙ not-some x.older (sym (tells x was) ∙ away)

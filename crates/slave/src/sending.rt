@@ -1,5 +1,5 @@
 //! Items are taken off the rings, and what waits is sent.
-ghost use Rattle.std.specs.Prelude.{◌≡◌, ◌*◌, ◌<◌, ◌≤◌, [], min, length, drop};
+ghost use Rattle.std.specs.Prelude.{◌≡◌, ◌+◌, ◌*◌, ◌<◌, ◌≤◌, [], min, length, drop};
 ghost use Rattle.std.specs.Prelude.{take as first};
 ghost use Rattle.xcp_base.specs.declared.limits.TheConstants.{MAX_CHANNELS};
 ghost use Rattle.frame_writer.specs.Frame.{text};
@@ -10,7 +10,7 @@ ghost use Rattle.slave.specs.Inner.{LetsGoThere, LooksOlder, LooksOnce, acts_of}
 ghost use Rattle.slave.specs.Log.{sending};
 ghost use Rattle.slave.specs.Taking.{LetsGo, LooksThrough, TakesFairly, TakesItems};
 ghost use Rattle.slave.specs.Taking.{most_taken};
-ghost use Rattle.slave.specs.declared.limits.TheConstants.{PER_ACT};
+ghost use Rattle.slave.specs.declared.limits.TheConstants.{MOST_ACTS, PER_ACT};
 
 use crate::limits::PER_ACT;
 use crate::round::{Round, is_full};
@@ -103,6 +103,19 @@ impl Slave {
         ensures keeps { KeepsNewest self.old self.new }
         ensures goes { LetsGoThere self.old self.new c }
     {
+        if self.channels.has_older(c) {
+            self.empty_older(c);
+        }
+    }
+
+    /// The same where it has a part there. It stands out of line, as that seldom is so.
+    #[inline(never)]
+    fn empty_older(&mut self, c: usize)
+        requires channel { c < length self.old.channels }
+        ensures takes { TakesItems 1024 self.old self.new }
+        ensures keeps { KeepsNewest self.old self.new }
+        ensures goes { LetsGoThere self.old self.new c }
+    {
         let mut taken = 0;
         while taken < MOST_ITEMS {
             // never `Full`: no list of that measurement runs
@@ -110,6 +123,17 @@ impl Slave {
                 return;
             }
             taken += 1;
+        }
+    }
+
+    /// Counts so many acts more, if any.
+    fn count(&mut self, acts: u64)
+        requires limit { acts ≤ PER_ACT }
+        requires below { self.old.acts < MOST_ACTS }
+        ensures { self.new ≡ record self.old { acts = self.old.acts + acts } }
+    {
+        if acts > 0 {
+            self.acts += acts;
         }
     }
 
@@ -124,7 +148,7 @@ impl Slave {
             return Step::Nothing;
         }
         let step = self.channels.take(c, &mut self.outbox);
-        self.acts += acts_of(step);
+        self.count(acts_of(step));
         step
     }
 
@@ -139,7 +163,7 @@ impl Slave {
             return Step::Nothing;
         }
         let step = self.channels.take_from_older(c, &mut self.outbox);
-        self.acts += acts_of(step);
+        self.count(acts_of(step));
         step
     }
 

@@ -100,6 +100,7 @@ fn finish(part: &mut Option<Share>, end: SamplerEnd<FrameLeft>) -> Option<Finish
 }
 
 impl Channel {
+    ghost use Rattle.std.specs.Option.{is_some};
     ghost use Rattle.slave_channels.specs.Channels.{Opens, Orders, IsBackOf, keeps_part, keeps_two};
     ghost use Rattle.slave_channels.specs.Channels.{keeps_within};
     ghost use Rattle.slave_channels.specs.Channels.{no_measurement, number_of};
@@ -160,6 +161,13 @@ impl Channel {
         ensures { result ≡ keeps_part self.now }
     {
         self.older.is_some() || self.newer.is_some()
+    }
+
+    /// Whether a part of the measurement before the newest is kept here.
+    pub fn has_older(&self) -> bool
+        ensures { result ≡ is_some self.now.older }
+    {
+        self.older.is_some()
     }
 
     /// Whether a part is kept here of a measurement with a number from `from` to below `to`.

@@ -8,6 +8,7 @@ use slave_outbox::{Outbox, Step};
 use xcp_base::ChannelId;
 
 /// Takes the next item of a part's ring, if the part is there.
+#[inline(always)]
 fn take_of(part: &mut Option<Share>, c: ChannelId, outbox: &mut Outbox) -> Step
     ensures takes { TakesOf c part.old part.new outbox.old outbox.new result }
     ensures shown_stays { outbox.new.shown ≡ outbox.old.shown }

@@ -8,3 +8,4 @@ pub mod KeptLemmas
 pub mod BoxLemmas
 pub mod TakingLemmas
 pub mod HeadLemmas
+pub mod GoneLemmas

@@ -110,9 +110,8 @@ impl Intake {
         self.take_head(head, page, room, measurement, channel)
     }
 
-    /// The same where the first item of the ring has this head. It stands out of line, so that a
-    /// look that finds nothing is short.
-    #[inline(never)]
+    /// The same where the first item of the ring has this head.
+    #[inline(always)]
     fn take_head(
         &mut self,
         head: Head,

@@ -1,5 +1,8 @@
 //! What waits to be sent: frames are laid out, shown to the transport, and let go once sent.
-ghost use Rattle.std.specs.Prelude.{◌≡◌, ◌≤◌, true, false};
+ghost use Rattle.std.specs.Prelude.{◌≡◌, ◌+◌, ◌%◌, ◌≤◌, true, false, length, take};
+ghost use Rattle.frame_page.specs.Laid.{behind, blocks_of};
+ghost use Rattle.frame_page.specs.Laid.{packets_in as packets_kept};
+ghost use Rattle.frame_writer.specs.Frame.{unnumbered};
 ghost use Rattle.slave_outbox.specs.Inner.{replies_kept};
 
 use crate::limits::{MAX_REPLIES, page_blocks, page_places};
@@ -65,6 +68,25 @@ fn replies_in(page: &FramePage<Origin>) -> usize
         count += one_if(page.origin(i).is_reply());
     }
     count
+}
+
+/// The frames that were shown were sent, and wait no more in a page that has so many bytes of them.
+fn let_go(page: &mut FramePage<Origin>, shown: Front, len: usize)
+    requires there { shown.count ≤ length (packets_kept page.old.waits) }
+    requires front { shown.len
+        ≡ length (unnumbered (take shown.count (packets_kept page.old.waits))) }
+    requires long { len ≡ length (unnumbered (packets_kept page.old.waits)) }
+    ensures { page.new ≡ record page.old {
+      waits = behind shown.count page.old.waits;
+      counter = (page.old.counter + shown.count) % 65536;
+      used = blocks_of (behind shown.count page.old.waits);
+    } }
+{
+    if shown.len == len {
+        page.sent_all(shown.count);
+        return;
+    }
+    page.sent(shown.count);
 }
 
 impl Outbox {
@@ -167,7 +189,7 @@ impl Outbox {
             (drop self.old.shown waits) }
         ensures none_shown { self.new.shown ≡ 0 }
     {
-        self.page.sent(self.shown.count);
+        let_go(&mut self.page, self.shown, self.len);
         self.len -= self.shown.len;
         // for the proof, as above
         self.log.sent(&[]);

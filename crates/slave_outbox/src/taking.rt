@@ -17,6 +17,7 @@ impl Outbox {
     /// Takes the next item of an event channel's ring, if one is there, by its intake. A sample
     /// that passes is laid out behind all that waits, as one of this measurement and event channel,
     /// if its frames end within the page; else it stays in the ring. It takes no memory.
+    #[inline(always)]
     pub fn take(&mut self, intake: &mut Intake, measurement: u64, channel: u8) -> Step
         ensures means { TakesItem intake.old intake.new self.old self.new measurement channel
             result }

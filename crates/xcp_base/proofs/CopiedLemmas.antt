@@ -1,18 +1,24 @@
 -- What spans copy of bytes.
-use Rattle.std.proofs.Common.{◌≡◌, ℕ, ◌+◌, ◌-◌, ◌<◌, ◌≤◌, set, List, [], ◌∷◌, ◌++◌, length, take, drop, get_or, sym, ap, ◌∙◌, arith}
+use Rattle.std.proofs.Common.{◌≡◌, ℕ, ◌+◌, ◌-◌, ◌<◌, ◌≤◌, set, List, [], ◌∷◌, ◌++◌, length, take, drop, get_or, sym, ap, ◌∙◌, append-nil, arith}
 use Rattle.std.specs.Prelude.{All, slice_range}
 use Rattle.std.proofs.Math.Seq.{take-length}
-use Rattle.std.proofs.lemmas.List.{get_or-drop, length-drop, take_more, take_more_set}
+use Rattle.std.proofs.lemmas.List.{get_or-drop, length-drop, length-take-le, take_more, take_more_set}
 use Rattle.std.proofs.lemmas.List.Elements.{All-append, All-drop, All-nil, All-take}
-use Rattle.xcp_base.specs.declared.span.Span.{Span}
-use Rattle.xcp_base.specs.Copied.{copied_at}
+use Rattle.xcp_base.specs.Copied.{IsSpanAt, copied_at}
 
 -- what spans copy of bytes are bytes
-pub copied_at_small : (bytes : List ℕ) (start : ℕ) (spans : List Span) → All (λ (b : ℕ). b < 256) bytes → All (λ (b : ℕ). b < 256) (copied_at bytes start spans)
-copied_at_small bytes start [] small = All-nil (λ (b : ℕ). b < 256)
-copied_at_small bytes start (r ∷ rs) small =
-    let part : All (λ (b : ℕ). b < 256) (slice_range bytes (r.start - start) (r.end - start)) = All-take (λ (b : ℕ). b < 256) (r.end - start - (r.start - start)) (drop (r.start - start) bytes) (All-drop (λ (b : ℕ). b < 256) (r.start - start) bytes small) in
-    All-append (λ (b : ℕ). b < 256) (slice_range bytes (r.start - start) (r.end - start)) (copied_at bytes start rs) part (copied_at_small bytes start rs small)
+pub copied_at_small : (bytes : List ℕ) (size : ℕ) (offsets : List ℕ) → All (λ (b : ℕ). b < 256) bytes → All (λ (b : ℕ). b < 256) (copied_at bytes size offsets)
+copied_at_small bytes size [] small = All-nil (λ (b : ℕ). b < 256)
+copied_at_small bytes size (o ∷ os) small =
+    let part : All (λ (b : ℕ). b < 256) (slice_range bytes o (o + size)) = All-take (λ (b : ℕ). b < 256) (o + size - o) (drop o bytes) (All-drop (λ (b : ℕ). b < 256) o bytes small) in
+    All-append (λ (b : ℕ). b < 256) (slice_range bytes o (o + size)) (copied_at bytes size os) part (copied_at_small bytes size os small)
+
+-- a span copies as many bytes as it has
+pub length-copied_at-one : (bytes : List ℕ) (size o : ℕ) → IsSpanAt (length bytes) size o → length (copied_at bytes size (o ∷ [])) ≡ size
+length-copied_at-one bytes size o is =
+    let many : o + size - o ≡ size = omega arith in
+    let inside : o + size - o ≤ length (drop o bytes) = omega (arith, is, length-drop o bytes) in
+    ap length (append-nil (slice_range bytes o (o + size))) ∙ length-take-le (o + size - o) (drop o bytes) inside ∙ many
 
 -- one byte more was read of those from a place on
 pub read-more : (xs ys : List ℕ) (from k : ℕ) → k < length xs → from + k < length ys → take k xs ≡ take k (drop from ys)

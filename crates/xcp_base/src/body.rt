@@ -1,13 +1,11 @@
 //! The bytes in which a sample's packets are kept, and the copy from memory to them.
 ghost use Rattle.std.specs.Prelude.{◌≡◌, ℕ, ◌+◌, ◌<◌, ◌≤◌, [], ◌∷◌, ◌++◌, All, length};
 ghost use Rattle.std.specs.Prelude.{slice_range, take};
-ghost use Rattle.xcp_base.specs.Copied.{AreSpansIn, AreStretches, HasSize, IsSpanAt};
-ghost use Rattle.xcp_base.specs.Copied.{copied_at, copied_from, copied_packet};
+ghost use Rattle.xcp_base.specs.Copied.{AreSpansIn, AreStretches, copied_from, copied_packet};
 
 use crate::limits::{MAX_BODY, MAX_DTO};
 use crate::memory_view::MemoryView;
 use crate::put::{put_by_size, put_packet};
-use crate::span::Span;
 use crate::stretch::Stretch;
 use std::marker::Model;
 
@@ -90,25 +88,34 @@ impl Body {
         field: &[u8],
         stamp: &[u8],
         memory: MemoryView<'_>,
-        spans: &[Span],
+        offsets: &[u32],
         stretches: &[Stretch],
     )
-        requires inside { AreSpansIn memory stretches.now spans.now }
-        requires sizes { AreStretches stretches.now spans.now }
+        requires inside { AreSpansIn memory stretches.now offsets.now }
+        requires counts { AreStretches stretches.now offsets.now }
         requires room { length self.old
-            + length (copied_packet field.now stamp.now memory stretches.now spans.now) < MAX_BODY }
-        requires fits { length (copied_packet field.now stamp.now memory stretches.now spans.now)
+            + length (copied_packet field.now stamp.now memory stretches.now offsets.now)
+            < MAX_BODY }
+        requires fits { length (copied_packet field.now stamp.now memory stretches.now offsets.now)
             ≤ MAX_DTO }
         ensures value { self.new ≡ self.old
-            ++ length (copied_packet field.now stamp.now memory.entry stretches.now spans.now)
-            ∷ copied_packet field.now stamp.now memory.entry stretches.now spans.now }
+            ++ length (copied_packet field.now stamp.now memory.entry stretches.now offsets.now)
+            ∷ copied_packet field.now stamp.now memory.entry stretches.now offsets.now }
         // For the invariant of `Packets`: what was copied are bytes.
         ensures each { All (λ (b : ℕ). b < 256)
-            (copied_from memory.entry stretches.now spans.now) }
+            (copied_from memory.entry stretches.now offsets.now) }
     {
         let start = self.len;
         let at = start + 1;
-        let end = put_packet(&mut self.cells, at, field, stamp, memory, spans, stretches);
+        let end = put_packet(
+            &mut self.cells,
+            at,
+            field,
+            stamp,
+            memory,
+            offsets,
+            stretches,
+        );
         self.cells[start] = (end - at) as u8;
         self.len = end;
     }

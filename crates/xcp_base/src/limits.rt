@@ -75,5 +75,8 @@ pub const MAX_BYTE_RING: usize = 65536;
 /// The greatest capacity of a ring of orders, in orders; the least is one.
 pub const MAX_CONTROL_RING: usize = 64;
 
+/// The bytes behind a frame that may be written over while it is laid out.
+pub const SLACK: usize = 8;
+
 /// The packets of a sample at their longest, each behind its length, in bytes.
 pub(crate) const MAX_BODY: usize = MAX_ODTS * (1 + MAX_DTO);

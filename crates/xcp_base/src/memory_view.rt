@@ -1,6 +1,6 @@
 //! The memory of which a trigger's samples are copied.
-ghost use Rattle.std.specs.Prelude.{◌≡◌};
-ghost use Rattle.xcp_base.specs.Copied.{bytes_in, start_in};
+ghost use Rattle.std.specs.Prelude.{◌≡◌, drop};
+ghost use Rattle.xcp_base.specs.Copied.{bytes_in};
 
 use crate::stretch::Stretch;
 
@@ -14,19 +14,29 @@ pub enum MemoryView<'a> {
 }
 
 impl<'a> MemoryView<'a> {
-    /// The bytes in which a stretch's spans lie, and where they begin in an image of all memory; no
-    /// bytes if there is no slice for its segment.
+    /// The bytes in which a stretch's spans lie, from where its segment begins: none if there is no
+    /// slice for its segment, or if the image ends before it.
     #[inline]
-    pub(crate) fn part(&self, stretch: &Stretch) -> (&'a [u8], usize)
-        ensures bytes { result.0.now ≡ bytes_in self.now stretch.now }
-        ensures start { result.1 ≡ start_in self.now stretch.now }
+    pub(crate) fn part(&self, stretch: &Stretch) -> &'a [u8]
+        ensures bytes { result.now ≡ bytes_in self.now stretch.now }
     {
         match self {
-            MemoryView::Image(image) => (image, 0),
+            MemoryView::Image(image) => bytes_from(image, stretch.start),
             MemoryView::Parts(parts) => match parts.get(stretch.segment as usize) {
-                Some(part) => (part, stretch.start),
-                None => (&[], stretch.start),
+                Some(part) => part,
+                None => &[],
             },
         }
     }
+}
+
+/// The bytes from a place on: none where they end before it.
+#[inline]
+fn bytes_from(bytes: &[u8], start: usize) -> &[u8]
+    ensures { result.now ≡ drop start bytes.now }
+{
+    if start > bytes.len() {
+        return &[];
+    }
+    &bytes[start..]
 }

@@ -12,7 +12,6 @@ use crate::body::Body;
 use crate::limits::{MAX_BODY, MAX_DTO, MAX_ODTS};
 use crate::memory_view::MemoryView;
 use crate::packet_iter::PacketIter;
-use crate::span::Span;
 use crate::stretch::Stretch;
 use std::marker::Model;
 use thiserror::Error;
@@ -101,17 +100,17 @@ impl Packets {
         field: &[u8],
         stamp: &[u8],
         memory: MemoryView<'_>,
-        spans: &[Span],
+        offsets: &[u32],
         stretches: &[Stretch],
     ) -> Result<(), Full>
         requires not_empty { 0 < length field.now }
-        requires inside { AreSpansIn memory stretches.now spans.now }
-        requires sizes { AreStretches stretches.now spans.now }
-        requires fits { length (copied_packet field.now stamp.now memory stretches.now spans.now)
+        requires inside { AreSpansIn memory stretches.now offsets.now }
+        requires counts { AreStretches stretches.now offsets.now }
+        requires fits { length (copied_packet field.now stamp.now memory stretches.now offsets.now)
             ≤ MAX_DTO }
         ensures succeeds { IsOk result ↔ (length self.old < MAX_ODTS) }
         ensures ok { OnOk result (self.new ≡ self.old
-            ++ copied_packet field.now stamp.now memory.entry stretches.now spans.now ∷ []) }
+            ++ copied_packet field.now stamp.now memory.entry stretches.now offsets.now ∷ []) }
         ensures full { OnErr result (length self.old ≡ MAX_ODTS) }
         ensures err { OnErr result (self.new ≡ self.old) }
     {
@@ -119,7 +118,7 @@ impl Packets {
             return Err(Full);
         }
         self.body
-            .extend_by_packet(field, stamp, memory, spans, stretches);
+            .extend_by_packet(field, stamp, memory, offsets, stretches);
         self.count += 1;
         Ok(())
     }

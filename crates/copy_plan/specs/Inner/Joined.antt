@@ -1,6 +1,6 @@
 -- The spans of an ODT, which are its entries with neighbours joined.
 use Rattle.std.specs.Prelude.{ℕ, ◌+◌, ◌==◌, if◌then◌else◌, List, [], ◌∷◌}
-use Rattle.xcp_base.specs.declared.span.Span.{Span}
+use Rattle.copy_plan.specs.declared.span.Span.{Span}
 use Rattle.copy_plan.specs.Config.{OdtEntry}
 
 -- some bytes and the spans behind them: one span with the first of these where it begins at their

@@ -2,7 +2,7 @@ use Rattle.std.proofs.Common.{◌≡◌, ◌<◌, ◌++◌, [], ◌∷◌, List,
 use Rattle.std.proofs.lemmas.List.{take_more}
 use Rattle.std.proofs.lemmas.List.Elements.{All-append, All-cons, All-nil}
 use Rattle.std.proofs.lemmas.Option.{unwrap_or-slice_get}
-use Rattle.xcp_base.specs.declared.span.Span.{Span}
+use Rattle.copy_plan.specs.declared.span.Span.{Span}
 use Rattle.daq_store.specs.declared.entry.Entry.{Entry}
 use Rattle.copy_plan.specs.Config.{written_entries}
 use Rattle.copy_plan.specs.Inner.Joined.{joined_spans}

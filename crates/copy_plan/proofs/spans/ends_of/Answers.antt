@@ -4,7 +4,7 @@ use Rattle.std.proofs.lemmas.Option.{none-some}
 use Rattle.segments.specs.Image.{image_place}
 use Rattle.daq_store.specs.declared.entry.Entry.{Entry}
 use Rattle.daq_store.specs.Configuration.{odt_entries}
-use Rattle.copy_plan.proofs.WrittenLemmas.{WithinAt, ends_inside, lies_at_place, within_at}
+use Rattle.copy_plan.proofs.WrittenLemmas.{WithinAt, ends_inside, lies_at_place, near_place, within_at}
 use Rattle.copy_plan.proofs.spans.ends_of.Goals as goal
 use Rattle.copy_plan.proofs.spans.ends_of.Goals.{After-image_place, After-written}
 
@@ -39,3 +39,9 @@ overflow_add-result c =
     let l = lies_at_place c.args.channel c.args.segments.now c.in-Some.written c.in-Some-image_place.start e in
     let at : unwrap_or (image_place c.args.channel c.args.segments.now c.in-Some.written.extension c.in-Some.written.address c.in-Some.written.size) 0 ≡ c.in-Some-image_place.start = ap (λ (o : Option ℕ). unwrap_or o 0) e in
     omega (arith, at, c.requires.image.len, ends_inside c.args.channel c.args.segments.now _ _ l.segment l.lies)
+
+-- it begins near, as its address has 32 bits
+pub returns-clause-near : goal.returns-clause-near
+returns-clause-near c =
+    let e : image_place c.args.channel c.args.segments.now c.in-Some.written.extension c.in-Some.written.address c.in-Some.written.size ≡ Some c.in-Some-image_place.start = sym c.image_place.ensures.value ∙ c.in-Some-image_place.is in
+    near_place c.args.channel c.args.segments.now c.in-Some.written c.in-Some-image_place.start e (omega arith)

@@ -6,4 +6,4 @@ use Rattle.copy_plan.proofs.spans.stretches_of.Given as goal
 abbrev pub invariant-loop-span : goal.invariant-loop-span
 invariant-loop-span l =
     (l.stretch.count ≤ l.span-index)
-    × ArePlaced l.channel l.segments (record { spans = take l.span-index l.spans; stretches = l.stretches.items ++ l.stretch ∷ [] })
+    × ArePlaced l.channel l.segments (record { spans = take l.span-index l.spans; stretches = l.stretches.items ++ l.stretch ∷ []; offsets = l.offsets.items })

@@ -1,4 +1,4 @@
-use Rattle.std.proofs.Common.{◌≡◌, ◌+◌, ℕ, Bool, List, [], ◌∷◌, ◌++◌, length, get_or, set, take, arith, ap, sym, ◌∙◌, refl, subst, length-take, ◌^◌, suc}
+use Rattle.std.proofs.Common.{◌≡◌, ◌≤◌, ◌+◌, ℕ, Bool, List, [], ◌∷◌, ◌++◌, length, get_or, set, take, arith, ap, sym, ◌∙◌, refl, subst, length-take, ◌^◌, suc}
 use Rattle.std.proofs.Math.Seq.{take-suc}
 use Rattle.copy_plan.specs.Config.{ListPlan}
 use Rattle.sampler.specs.Limits.{KeepsTo}
@@ -6,7 +6,10 @@ use Rattle.sampler.specs.Inner.AtTrigger.{HandlesLists, Row, Stage, due_now, fir
 use Rattle.sampler.specs.Inner.Moments.{MomentParts}
 use Rattle.sampler.specs.declared.track.Track.{Track}
 use Rattle.sampler.proofs.Handled.{handles-none, handles-more, track-at, channel-at, fit-at, plan-at, row_count-yes, row_count-no, row_count-le}
-use Rattle.sampler.proofs.NextDue.{due-below}
+use Rattle.std.proofs.Math.Nat.{min-le_left, min-le_right}
+use Rattle.std.proofs.lemmas.List.{length-set, take-set}
+use Rattle.sampler.specs.Inner.Fits.{NoneDueBefore}
+use Rattle.sampler.proofs.NextDue.{NoneDueBefore-more, due-below}
 use Rattle.sampler.proofs.Places.{no_track}
 use Rattle.sampler.proofs.at_trigger.sample_lists.Goals as goal
 use Rattle.sampler.proofs.at_trigger.sample_lists.Goals.{then-accepted, else-accepted}
@@ -15,6 +18,7 @@ pub loop-place-init : goal.loop-place-init
 loop-place-init g c =
     record {
       handled = handles-none g.S.SendEnd g.S.End.RingEnd c.args.moment.now c.args.end.now c.args.tracks.now c.args.number;
+      soonest = tt;
       next_limit = omega arith;
       capacity = refl;
       limit = refl;
@@ -61,7 +65,14 @@ loop-place-preserved g c =
       | else-accepted w ↦ omega (arith, w.next-is, row_count-no plan track due c.sample_list-accepted.result w.if-accepted.false)
     ] in
     let P : List ListPlan → Type 0 = λ ps. HandlesLists E R c.args.moment.now ps first last in
+    let noted : Track = get_or last.tracks i no_track in
+    let sooner : c.min-soonest.result ≤ c.loop-place.soonest = omega (arith, c.min-soonest.ensures, min-le_left c.loop-place.soonest noted.next) in
+    let here : c.min-soonest.result ≤ noted.next = omega (arith, c.min-soonest.ensures, min-le_right c.loop-place.soonest noted.next) in
+    let before : NoneDueBefore c.loop-place.soonest (take i last.tracks) = subst (NoneDueBefore c.loop-place.soonest) (sym (take-set c.loop-place.tracks i c.note.new.self)) c.loop-place.invariant.soonest in
     record {
+      soonest =
+          subst (λ k. NoneDueBefore c.min-soonest.result (take k last.tracks)) one
+          (NoneDueBefore-more c.min-soonest.result c.loop-place.soonest i last.tracks no_track sooner before (omega (arith, c.requires.room, length-set c.loop-place.tracks i c.note.new.self)) here);
       handled =
           subst P more (
           handles-more E R c.args.moment.now (take i c.args.plans.now) first mid last row

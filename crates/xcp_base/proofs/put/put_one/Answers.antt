@@ -7,4 +7,4 @@ use Rattle.xcp_base.proofs.put.put_one.Goals as goal
 pub returns-clause-each : goal.returns-clause-each
 returns-clause-each c =
     let small = All-from_get_or (λ (b : ℕ). b < 256) c.args.bytes.now 0 (λ k h. (c.type_inv.bytes k).fits) in
-    copied_at_small c.args.bytes.now c.args.start (c.args.span.now ∷ []) small
+    copied_at_small c.args.bytes.now c.args.size (c.args.offset ∷ []) small

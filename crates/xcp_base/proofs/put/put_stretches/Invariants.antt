@@ -10,7 +10,7 @@ invariant-loop-stretch l =
     let more = drop l.stretch-index l.stretches in
     AreStretches more l.rest
     × AreSpansIn l.memory more l.rest
-    × (l.at + length (copied_from l.memory more l.rest) ≡ l.from + length (copied_from l.memory l.stretches l.spans))
-    × (take l.at l.cells ++ copied_from l.memory more l.rest ≡ take l.from l.fn.cells ++ copied_from l.memory l.stretches l.spans)
-    × (All (λ (b : ℕ). b < 256) (copied_from l.memory more l.rest) → All (λ (b : ℕ). b < 256) (copied_from l.memory l.stretches l.spans))
+    × (l.at + length (copied_from l.memory more l.rest) ≡ l.from + length (copied_from l.memory l.stretches l.offsets))
+    × (take l.at l.cells ++ copied_from l.memory more l.rest ≡ take l.from l.fn.cells ++ copied_from l.memory l.stretches l.offsets)
+    × (All (λ (b : ℕ). b < 256) (copied_from l.memory more l.rest) → All (λ (b : ℕ). b < 256) (copied_from l.memory l.stretches l.offsets))
     × (length l.cells ≡ length l.fn.cells)

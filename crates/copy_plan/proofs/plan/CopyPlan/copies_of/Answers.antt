@@ -1,6 +1,6 @@
 use Rattle.std.proofs.Common.{◌∙◌, ap, sym, length, [], get_or, ◌<◌, arith, List}
 use Rattle.std.proofs.lemmas.List.{get_or-map, length-map}
-use Rattle.xcp_base.specs.declared.span.Span.{Span}
+use Rattle.copy_plan.specs.declared.span.Span.{Span}
 use Rattle.copy_plan.specs.Config.{ListPlan, odt}
 use Rattle.copy_plan.specs.Inner.Joined.{joined_spans}
 use Rattle.copy_plan.specs.Inner.Kept.{plan_view}

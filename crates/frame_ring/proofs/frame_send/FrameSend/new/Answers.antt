@@ -1,4 +1,4 @@
-use Rattle.std.proofs.Common.{◌≡◌, ◌∙◌, ap, arith, ◌++◌, [], ◌/◌, append-nil, length}
+use Rattle.std.proofs.Common.{◌≡◌, ◌∙◌, ap, arith, ◌++◌, [], ◌-◌, ◌/◌, append-nil, length}
 use Rattle.rtrb.specs.Ring.{known_free, producer_capacity, sent}
 use Rattle.channel_ring.specs.Names.{name_of}
 use Rattle.frame_ring.specs.Fronts.{AreRecords}
@@ -17,8 +17,8 @@ invariant_of-result c =
       kept = record {
         whole = whole;
         fits = omega arith;
-        least = omega (arith, c.requires.least, c.len-room.ensures);
-        long = omega (arith, c.requires.whole, c.len-room.ensures);
+        least = omega (arith, c.requires.least, c.len.ensures);
+        long = omega (arith, c.requires.whole, c.len.ensures);
         there = omega arith;
         costs = costs (sent p) c.args.buffer.items 0 whole;
       };
@@ -28,5 +28,5 @@ invariant_of-result c =
 pub returns : goal.returns
 returns c =
     let p = c.args.producer in
-    first_state (items_in (sent p ++ [])) (known_free p) (producer_capacity p) (c.len-room.result / 8) (length c.args.buffer.items / 8) (name_of p.end)
-    (ap items_in (append-nil (sent p) ∙ c.requires.nothing_pushed) ∙ nothing_read) (omega (arith, c.len-room.ensures))
+    first_state (items_in (sent p ++ [])) (known_free p) (producer_capacity p) ((c.len.result - 8) / 8) ((length c.args.buffer.items - 8) / 8) (name_of p.end)
+    (ap items_in (append-nil (sent p) ∙ c.requires.nothing_pushed) ∙ nothing_read) (omega (arith, c.len.ensures))

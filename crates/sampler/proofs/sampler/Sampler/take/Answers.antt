@@ -4,6 +4,7 @@ use Rattle.copy_plan.specs.Memory.{image_in}
 use Rattle.sampler.specs.State.{SamplerState}
 use Rattle.sampler.specs.Standing.{StandsAfter, TakesTrigger}
 use Rattle.sampler.specs.Inner.AtTrigger.{HandlesLists, Stage, first_stage}
+use Rattle.sampler.specs.Inner.Fits.{NoneDueBefore}
 use Rattle.sampler.specs.Inner.Moments.{MomentParts}
 use Rattle.sampler.proofs.Handled.{TracksFit-mono, IsSampler-handled, handles-published}
 use Rattle.sampler.specs.declared.taken.Taken.{Taken}
@@ -61,8 +62,8 @@ returns-then-self-clause-taken g c = λ past stands.
 pub invariant_of-self-2 : goal.invariant_of-self-2
 invariant_of-self-2 g c =
     let w : After-publish g = (goal.at.invariant_of-self-2 g c).After-publish in
-    IsSampler-handled g.S.SendEnd g.S.End.RingEnd (moment_of g w) c.self.inside.image_len c.self.inside.segments.items c.self.inside.lists.plans.items (first_of g w) (last_of g w) c.self.inside.triggers c.self.inside.soonest c.soonest-self-inside.result (g.S.SendEnd.limit c.self.inside.end) (g.S.SendEnd.limit c.publish.new.self)
-    c.self.invariant (c.publish.ensures.limit_stays ∙ c.sample_lists-accepted.ensures.limit_stays) (the_lists g w) (omega (arith, c.sample_lists-accepted.ensures.next, ap (λ (ps : List ListPlan). length ps) c.as_slice.ensures.value)) c.sample_lists-accepted.auto.tracks (omega (arith, c.self.invariant.limit, c.requires.more, ap (λ (s : SamplerState _). s.triggers) c.self.view_is)) c.soonest-self-inside.ensures
+    IsSampler-handled g.S.SendEnd g.S.End.RingEnd (moment_of g w) c.self.inside.image_len c.self.inside.segments.items c.self.inside.lists.plans.items (first_of g w) (last_of g w) c.self.inside.triggers c.self.inside.soonest c.sample_lists-accepted.result.2 (g.S.SendEnd.limit c.self.inside.end) (g.S.SendEnd.limit c.publish.new.self)
+    c.self.invariant (c.publish.ensures.limit_stays ∙ c.sample_lists-accepted.ensures.limit_stays) (the_lists g w) (omega (arith, c.sample_lists-accepted.ensures.next, ap (λ (ps : List ListPlan). length ps) c.as_slice.ensures.value)) c.sample_lists-accepted.auto.tracks (omega (arith, c.self.invariant.limit, c.requires.more, ap (λ (s : SamplerState _). s.triggers) c.self.view_is)) (subst (λ (ps : List ListPlan). NoneDueBefore c.sample_lists-accepted.result.2 (take (length ps) c.sample_lists-accepted.new.tracks)) c.as_slice.ensures.value c.sample_lists-accepted.ensures.soonest)
 
 pub returns-clause-taken : goal.returns-clause-taken
 returns-clause-taken g c = λ past stands.

@@ -1,4 +1,6 @@
 use Rattle.std.proofs.Common.{◌<◌, ◌∙◌, length, refl, ap, subst, sym, arith}
+use Rattle.slave.specs.Inner.{KeepsOlder, LooksOnce}
+use Rattle.slave.specs.Taking.{TakesItems}
 use Rattle.slave.proofs.OlderLemmas.{keeps-others}
 use Rattle.slave.proofs.RoundLemmas.{looks-not, looks-once}
 use Rattle.slave.proofs.TakingLemmas.{takes-nothing, takes-within, took-one}
@@ -14,12 +16,12 @@ returns-then-is_spent c = record {
 pub returns : goal.returns
 returns c = record {
   takes =
-      took-one c.args.self.now _ c.take-step.new.self c.take-step.new.outbox c.args.c c.acts_of.result c.take-step.result c.self.view_is c.self.invariant.1 (sym c.is_spent.ensures ∙ c.if-is_spent.false) c.acts_of.ensures.value
-      (subst (λ xs. c.args.c < length xs) (sym (ap (λ s. s.channels) c.self.view_is)) c.requires.channel) c.take-step.ensures.shown_stays c.take-step.ensures.takes;
+      subst (TakesItems 1 c.args.self.now) (sym c.count.ensures) (took-one c.args.self.now _ c.take-step.new.self c.take-step.new.outbox c.args.c c.acts_of.result c.take-step.result c.self.view_is c.self.invariant.1 (sym c.is_spent.ensures ∙ c.if-is_spent.false) c.acts_of.ensures.value
+      (subst (λ xs. c.args.c < length xs) (sym (ap (λ s. s.channels) c.self.view_is)) c.requires.channel) c.take-step.ensures.shown_stays c.take-step.ensures.takes);
   looks =
-      looks-once c.args.self.now _ c.take-step.new.self c.take-step.new.outbox c.args.c c.acts_of.result c.take-step.result c.self.view_is c.acts_of.ensures.value
-      (subst (λ xs. c.args.c < length xs) (sym (ap (λ s. s.channels) c.self.view_is)) c.requires.channel) (sym c.is_spent.ensures ∙ c.if-is_spent.false) c.take-step.ensures.takes;
+      subst (λ s. LooksOnce c.args.self.now s c.args.c c.take-step.result) (sym c.count.ensures) (looks-once c.args.self.now _ c.take-step.new.self c.take-step.new.outbox c.args.c c.acts_of.result c.take-step.result c.self.view_is c.acts_of.ensures.value
+      (subst (λ xs. c.args.c < length xs) (sym (ap (λ s. s.channels) c.self.view_is)) c.requires.channel) (sym c.is_spent.ensures ∙ c.if-is_spent.false) c.take-step.ensures.takes);
   older =
-      keeps-others c.args.self.now _ c.take-step.new.self c.take-step.new.outbox c.args.c c.acts_of.result c.take-step.result c.self.view_is
-      (subst (λ xs. c.args.c < length xs) (sym (ap (λ s. s.channels) c.self.view_is)) c.requires.channel) c.take-step.ensures.takes;
+      subst (KeepsOlder c.args.self.now) (sym c.count.ensures) (keeps-others c.args.self.now _ c.take-step.new.self c.take-step.new.outbox c.args.c c.acts_of.result c.take-step.result c.self.view_is
+      (subst (λ xs. c.args.c < length xs) (sym (ap (λ s. s.channels) c.self.view_is)) c.requires.channel) c.take-step.ensures.takes);
 }

@@ -17,8 +17,8 @@ pub invariant_of-self : goal.invariant_of-self
 invariant_of-self c =
     let i = c.self.invariant in
     let qs : List (List ℕ) = packets_of_body c.self.inside.count c.self.inside.body in
-    let rest : List ℕ = copied_from c.args.memory c.args.stretches.now c.args.spans.now in
-    let q : List ℕ = copied_packet c.args.field.now c.args.stamp.now c.args.memory c.args.stretches.now c.args.spans.now in
+    let rest : List ℕ = copied_from c.args.memory c.args.stretches.now c.args.offsets.now in
+    let q : List ℕ = copied_packet c.args.field.now c.args.stamp.now c.args.memory c.args.stretches.now c.args.offsets.now in
     let e : packets_of_body (c.self.inside.count + 1) c.extend_by_packet.new.self ≡ qs ++ q ∷ [] =
     packets_of_body-push c.self.inside.body c.extend_by_packet.new.self c.self.inside.count q i.body i.count c.extend_by_packet.ensures.value in
     let P : ℕ → Type 0 = λ b. b < 256 in
@@ -38,6 +38,6 @@ invariant_of-self c =
 
 pub returns-clause-ok : goal.returns-clause-ok
 returns-clause-ok c =
-    let q : List ℕ = copied_packet c.args.field.now c.args.stamp.now c.args.memory c.args.stretches.now c.args.spans.now in
+    let q : List ℕ = copied_packet c.args.field.now c.args.stamp.now c.args.memory c.args.stretches.now c.args.offsets.now in
     packets_of_body-push c.self.inside.body c.extend_by_packet.new.self c.self.inside.count q c.self.invariant.body c.self.invariant.count c.extend_by_packet.ensures.value
     ∙ ap (λ qs. qs ++ q ∷ []) c.self.view_is

@@ -4,7 +4,7 @@ use Rattle.frame_ring.specs.Ends.{limit_of}
 use Rattle.frame_ring.specs.declared.block.TheConstants.{BLOCK}
 use Rattle.frame_ring.specs.declared.limits.TheConstants.{MAX_FRAME_RING, MIN_ROOM}
 use Rattle.sampler.specs.Limits.{KeepsTo}
-use Rattle.slave_channels.proofs.ring_ends.room_for.Given as goal
+use Rattle.slave_channels.proofs.ring_ends.longest_of.Given as goal
 
 -- there is room for the plans so far
 abbrev pub invariant-loop-i : goal.invariant-loop-i

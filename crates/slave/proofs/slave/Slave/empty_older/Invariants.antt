@@ -2,7 +2,7 @@ use Rattle.std.proofs.Common.{◌≤◌, ◌-◌}
 use Rattle.slave.specs.Inner.{KeepsNewest}
 use Rattle.slave.specs.Taking.{TakesItems}
 use Rattle.slave.proofs.OlderLemmas.{OlderSoFar}
-use Rattle.slave.proofs.slave.Slave.take_from_older.Given as goal
+use Rattle.slave.proofs.slave.Slave.empty_older.Given as goal
 
 -- so many items were taken at most, the ring was looked at so many times, and nothing was taken of the newest part
 abbrev pub invariant-loop-taken : goal.invariant-loop-taken

@@ -4,7 +4,7 @@ use Rattle.std.proofs.lemmas.List.{get_or_default}
 use Rattle.frame_ring.specs.Ends.{limit_of}
 use Rattle.sampler.specs.Limits.{KeepsTo}
 use Rattle.slave_channels.proofs.RoomLemmas.{keeps_to_more}
-use Rattle.slave_channels.proofs.ring_ends.room_for.Goals as goal
+use Rattle.slave_channels.proofs.ring_ends.longest_of.Goals as goal
 
 -- there is room for one plan more
 pub loop-i-preserved : goal.loop-i-preserved

@@ -1,0 +1,7 @@
+use Rattle.std.proofs.Common.{ℕ, ◌<◌, get_or}
+use Rattle.xcp_base.specs.Copied.{IsSpanAt}
+use Rattle.xcp_base.proofs.put_tests.are_inside.Given as goal
+
+-- the spans so far are so
+abbrev pub invariant-loop-offset : goal.invariant-loop-offset
+invariant-loop-offset l = (k : ℕ) → (d : ℕ) → k < l.offset-index → IsSpanAt 32 l.size (get_or l.offsets k d)
