@@ -76,12 +76,14 @@
  *         its page, once it has measured   22000 + 18 p: p is the greater of 8192 and the bytes of
  *                                          the frames of the longest sample so far
  *         a measurement                    2500 n + 160 l + 100 o + 80 e, and for each event channel
- *                                          its capacity, and its longest sample
+ *                                          its capacity, and a sample of each of its lists, or the
+ *                                          greater of its capacity and its longest sample, if that
+ *                                          is less
  *   - A measurement that has ended, by DISCONNECT too, is freed where the next one begins, or by
  *     ng_slave_close. A task that took no trigger since, or whose stops found no room, keeps it
  *     longer; then it stands beside the next one. There are never more than two.
  *   - For example, two event channels of 32,768 bytes and 15 lists of 8 ODTs of 15 entries take some
- *     449 kB while they are measured. 16 event channels of 65,536 bytes and 16 lists of 8 ODTs of 32
+ *     433 kB while they are measured. 16 event channels of 65,536 bytes and 16 lists of 8 ODTs of 32
  *     entries take at most 2.0 MB, and with two measurements 3.4 MB.
  *
  * No call aborts, and none reads or writes beyond the given lengths, whatever bytes and numbers it
@@ -521,7 +523,7 @@ ng_status ng_sampler_free(ng_sampler *sampler);
  * The proofs speak of a log of what a slave did since it was opened: each call says by which acts
  * it goes on, and by how many at most; and one law holds of every log, docs/THEOREM.md. A slave
  * counts what it does, and once it counted 2^57 hears and takes nothing any more (NG_SPENT): a
- * packet counts as 128, a sample as 3. Once it is closed, its account is of all that its tasks gave
+ * packet counts as 128, a sample as 126. Once it is closed, its account is of all that its tasks gave
  * back, each once. Only tested, by session_test.c, tasks_test.c, accounts_test.c and
  * measurements_test.c of tests/c, and by tests/live: that what waits in a ring is taken, and that
  * what tasks gave back is found before. docs/PROVED.md says what is proved of the parts of a

@@ -755,6 +755,15 @@ static void within(unsigned long least, unsigned long bytes, unsigned long most,
     want(holds, what);
 }
 
+/* The bytes of a sample of each list of an event channel, but no more than its capacity or than a
+ * sample. */
+static unsigned long at_a_trigger(const struct load *load, unsigned channel, unsigned long record) {
+    unsigned long lists = (load->lists + load->channels - 1 - channel) / load->channels;
+    unsigned long all = lists * record;
+    unsigned long most = load->capacity > record ? load->capacity : record;
+    return all < most ? all : most;
+}
+
 /* What nerthogal.h says of the bytes that a slave takes at most, and when it gives them back. All its
  * texts are as long as may be, and there are as many segments as may be; of these each event channel
  * may read the first. */
@@ -767,7 +776,8 @@ static void heap_of(const struct load *load) {
     unsigned long frames = load->odts * (4 + field + load->entries * load->size) + stamp;
     unsigned long record = (16 + frames + 7) / 8 * 8;
     unsigned long page = 22000 + 18 * (frames > 8192 ? frames : 8192);
-    unsigned long most = 2500 * n + 160 * l + 100 * o + 80 * e + n * (load->capacity + record);
+    unsigned long most = 2500 * n + 160 * l + 100 * o + 80 * e;
+    for (unsigned c = 0; c < n; c++) most += load->capacity + at_a_trigger(load, c, record);
     ng_profile profile = profile_of();
     ng_segment segments[NG_MAX_SEGMENTS] = {segment_of(256, n)};
     ng_event events[16] = {event_of("e")};
@@ -798,7 +808,7 @@ static void heap_of(const struct load *load) {
     start_all(&slave, load);
     unsigned long measures = memory_bytes;
     within(0, measures - opened - of_lists, page + most, "of a page and a measurement");
-    if (n == 2) within(439000, measures - before, 459000, "some 449 kB");
+    if (n == 2) within(423000, measures - before, 443000, "some 433 kB");
     trigger_all(tasks, load);
     ask(&slave, "fe");
     /* each stop of a list finds room, also in the smallest ring */
