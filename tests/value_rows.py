@@ -97,6 +97,14 @@ MODULES = [
      'DISPLAY_IDENTIFIER PHYS_UNIT SYMBOL_LINK ECU_ADDRESS 9 PHYS_UNIT "m/s" ECU_ADDRESS 7 '
      'PHYS_UNIT "x" ECU_ADDRESS 8 /begin ANNOTATION ECU_ADDRESS 3 /end ANNOTATION '
      "MATRIX_DIM 1 1 1 ARRAY_SIZE 1 ECU_ADDRESS_EXTENSION 0 /end MEASUREMENT", {"a [m/s]": "1.5"}),
+    # no long identifier, and no limits, refuse a measurement
+    ("a long identifier of more than 1,024 bytes",
+     f'/begin MEASUREMENT a "{"i" * 1025}" UBYTE NO_COMPU_METHOD 0 0 0 1 ECU_ADDRESS 1 '
+     "/end MEASUREMENT", {"a": "101"}),
+    ("limits that say nothing, 0 0 and one above the other",
+     '/begin MEASUREMENT a "" UBYTE NO_COMPU_METHOD 0 0 0 0 ECU_ADDRESS 1 /end MEASUREMENT '
+     '/begin MEASUREMENT b "" UBYTE NO_COMPU_METHOD 0 0 1 -1 ECU_ADDRESS 2 /end MEASUREMENT',
+     {"a": "101", "b": "102"}),
     # left out
     ("a virtual measurement",
      '/begin MEASUREMENT a "" UBYTE NO_COMPU_METHOD 0 0 0 1 /end MEASUREMENT', NONE),

@@ -1,13 +1,13 @@
 -- What is read part by part is what the whole text describes.
-use Rattle.std.proofs.Common.{◌≡◌, ℕ, Bool, true, false, List, [], ◌∷◌, ◌++◌, Option, Some, None, Err, refl, sym, ap, subst, ◌∙◌}
+use Rattle.std.proofs.Common.{◌≡◌, ℕ, false, List, [], ◌∷◌, Option, Some, None, Err, refl, sym, ap, subst, ◌∙◌}
 use Rattle.a2l_text.specs.Tokens.{Token}
 use Rattle.a2l_text.specs.Words.{AreWords, without_mark}
 use Rattle.a2l_text.proofs.LawLemmas.{one_list}
 use Rattle.a2l_text.specs.Trees.{Elements, printed}
-use Rattle.a2l_text.specs.Parts.{Section, parts}
-use Rattle.a2l_text.specs.Ahead.{in_front, sections_from}
-use Rattle.a2l_text.specs.Reading.{sections_of, HaveParts}
-use Rattle.a2l_text.specs.Steps.{State, Reaches, ReachesPart, Ends, NextIs, StopsAt, UnlessMemory, coming, cleared}
+use Rattle.a2l_text.specs.Parts.{Section}
+use Rattle.a2l_text.specs.Ahead.{in_front}
+use Rattle.a2l_text.specs.Reading.{sections_of}
+use Rattle.a2l_text.specs.Steps.{State, ReachesPart, Ends, NextIs, StopsAt, UnlessMemory, coming, cleared}
 use Rattle.a2l_text.specs.declared.part.Part.{Part}
 use Rattle.a2l_text.specs.declared.block_fault.BlockFault.{BlockFault}
 use Rattle.a2l_text.specs.declared.role.Role.TheVariants.{File}

@@ -1,5 +1,5 @@
 -- What a MODULE's blocks describe, as loops go over them.
-use Rattle.std.proofs.Common.{◌≡◌, ℕ, zero, suc, ◌+◌, ◌<◌, ◌≤◌, List, [], ◌∷◌, ◌++◌, length, map, drop, get_or, Option, Some, None, refl, sym, ap, subst, ◌∙◌, append_assoc, add-one, arith, drop-cons}
+use Rattle.std.proofs.Common.{◌≡◌, ℕ, zero, suc, ◌+◌, ◌<◌, ◌≤◌, List, [], ◌∷◌, ◌++◌, length, map, drop, get_or, Option, Some, None, refl, sym, ap, ◌∙◌, append_assoc, add-one, arith, drop-cons}
 use Rattle.std.specs.Prelude.{slice_get}
 use Rattle.std.specs.Option.{option_map, option_and_then, option_to_list}
 use Rattle.std.proofs.lemmas.List.{append-nil}
@@ -12,8 +12,8 @@ use Rattle.a2l_entries.specs.MethodSaid.{Converted, method_seen}
 use Rattle.a2l_entries.specs.Gives.{◌>>=◌, Stops}
 use Rattle.a2l.specs.Names.{place_of}
 use Rattle.a2l_entries.specs.MeasurementSaid.{Measured}
-use Rattle.a2l_entries.specs.TableSaid.{Texts, Named, table_seen}
-use Rattle.a2l.specs.Resolved.{all_of, present, with_front, kept_behind, method_place, kept_address, value_at, value_of, table_named, Value}
+use Rattle.a2l_entries.specs.TableSaid.{Named, table_seen}
+use Rattle.a2l.specs.Resolved.{all_of, present, with_front, kept_behind, method_place, kept_address, value_at, value_of, table_named}
 use Rattle.a2l_entries.proofs.ScanLemmas.{stops_along}
 use Rattle.a2l.proofs.NameLemmas.{map_twice, get_map}
 

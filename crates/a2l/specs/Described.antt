@@ -1,10 +1,10 @@
 -- What an A2L file says of what can be measured.
-use Rattle.std.specs.Prelude.{◌≡◌, ℕ, List, [], ◌∷◌, ◌++◌, map, length, Option, Some, None}
+use Rattle.std.specs.Prelude.{ℕ, List, [], ◌∷◌, ◌++◌, map, length, Option, Some, None}
 use Rattle.std.specs.Prelude.{codes, string_bytes}
 use Rattle.std.specs.Option.{option_map, unwrap_or}
 use Rattle.measured_values.specs.declared.byte_order.ByteOrder.TheVariants.{MsbLast}
 use Rattle.a2l_text.specs.Tokens.{Token}
-use Rattle.a2l_text.specs.Trees.{Elements, IsWithin, printed}
+use Rattle.a2l_text.specs.Trees.{Elements}
 use Rattle.a2l_text.specs.Parts.{Section, parts}
 use Rattle.a2l_text.specs.declared.part.Part.{Part}
 use Rattle.a2l_text.specs.declared.part.Part.TheVariants as part

@@ -1,5 +1,5 @@
 -- What the blocks of a MODULE say, as they stand in it (ASAM MCD-2 MC, MODULE).
-use Rattle.std.specs.Prelude.{ℕ, List, [], ◌∷◌, ◌++◌, map, Option, Some, None}
+use Rattle.std.specs.Prelude.{List, [], ◌∷◌, ◌++◌, map, Option, Some, None}
 use Rattle.std.specs.Option.{option_or}
 use Rattle.a2l_text.specs.Tokens.{Token}
 use Rattle.a2l_text.specs.declared.part.Part.{Part}

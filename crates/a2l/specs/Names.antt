@@ -1,5 +1,5 @@
 -- The places of names in a list.
-use Rattle.std.specs.Prelude.{◌≡◌, ℕ, suc, ◌+◌, List, [], ◌∷◌, bytes_eq, Option, Some, None}
+use Rattle.std.specs.Prelude.{◌≡◌, ℕ, ◌+◌, List, [], ◌∷◌, bytes_eq, Option, Some, None}
 use Rattle.std.specs.Prelude.{if◌then◌else◌, String}
 use Rattle.std.specs.Option.{option_or}
 use Rattle.std.specs.BTreeMap.{BTreeMap, get_by_text}

@@ -1,12 +1,12 @@
 -- What a MODULE says, each name replaced by what it names.
-use Rattle.std.specs.Prelude.{ℕ, ◌+◌, Bool, List, [], ◌∷◌, ◌++◌, map, slice_get, Option, Some, None}
+use Rattle.std.specs.Prelude.{ℕ, ◌+◌, List, [], ◌∷◌, ◌++◌, map, slice_get, Option, Some, None}
 use Rattle.std.specs.Prelude.{if◌then◌else◌, is_some, string_bytes}
 use Rattle.std.specs.Option.{option_map, option_and_then, option_to_list, unwrap_or}
 use Rattle.std.specs.Float.Ieee.{Float}
 use Rattle.measured_values.specs.declared.byte_order.ByteOrder.{ByteOrder}
-use Rattle.measured_values.specs.declared.byte_order.ByteOrder.TheVariants.{MsbLast}
 use Rattle.measured_values.specs.declared.encoding.Encoding.{Encoding}
 use Rattle.measured_values.specs.declared.conversion.Conversion.{Conversion}
+use Rattle.measured_values.specs.declared.value_limits.ValueLimits.{ValueLimits}
 use Rattle.measured_values.specs.declared.conversion.Conversion.TheVariants as conversion
 use Rattle.a2l.specs.declared.description.Measurement.{Measurement}
 use Rattle.a2l.specs.declared.description.Method.{Method}
@@ -17,7 +17,6 @@ use Rattle.a2l_entries.specs.declared.layout.Layout.{Layout}
 use Rattle.a2l_entries.specs.MethodSaid.{Converted, Formula, identical, linear, rational_of}
 use Rattle.a2l_entries.specs.MethodSaid.{texts_named, other}
 use Rattle.a2l_entries.specs.TableSaid.{Texts, Named, texts_seen}
-use Rattle.a2l.specs.ModuleSaid.{Told}
 
 -- ---- methods
 
@@ -77,11 +76,13 @@ all_of f (x ∷ xs) = do
 
 pub record Value : Type 0 where
   pub name : List ℕ
+  pub identifier : List ℕ
   pub encoding : Encoding
   pub address : ℕ
   -- the place of its method
   pub method : Option ℕ
   pub unit : Option (List ℕ)
+  pub limits : Option ValueLimits
   -- the dimensions of an array, and how its elements stand; of a single value none
   pub dims : List ℕ
   pub layout : Layout
@@ -89,10 +90,12 @@ pub record Value : Type 0 where
 abbrev pub described_measurement : Measurement → Value
 described_measurement m = record {
   name = string_bytes m.name;
+  identifier = string_bytes m.identifier;
   encoding = m.encoding;
   address = m.address;
   method = m.method;
   unit = option_map (λ s. string_bytes s) m.unit;
+  limits = m.limits;
   dims = m.dims.items;
   layout = m.layout;
 }
@@ -114,6 +117,7 @@ name_if_left m = if is_some (kept_address m) then [] else m.name ∷ []
 abbrev pub value_at : ByteOrder → Measured → Option ℕ → ℕ → Value
 value_at order m method address = record {
   name = m.name;
+  identifier = m.identifier;
   encoding = record {
     data_type = m.data_type;
     order = unwrap_or m.options.order order;
@@ -123,6 +127,7 @@ value_at order m method address = record {
   address = address;
   method = method;
   unit = m.options.unit;
+  limits = m.limits;
   dims = dims_of m.options;
   layout = layout_of m.options;
 }

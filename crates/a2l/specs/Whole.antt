@@ -13,8 +13,8 @@ use Rattle.a2l_entries.specs.declared.entry_fault.EntryFault.TheVariants as entr
 use Rattle.a2l.specs.declared.reading.ReadFault.{ReadFault}
 use Rattle.a2l.specs.declared.reading.ReadFault.TheVariants as read
 use Rattle.a2l_entries.specs.Gives.{◌>>=◌, Stops}
-use Rattle.a2l.specs.ModuleSaid.{Told, no_parts}
-use Rattle.a2l.specs.Described.{Described, nothing, described_from, description_of}
+use Rattle.a2l.specs.ModuleSaid.{Told}
+use Rattle.a2l.specs.Described.{Described, described_from, description_of}
 
 -- the words of a text are those of elements, of which at most 64 blocks stand in one another, with
 -- /include in A2ML alone

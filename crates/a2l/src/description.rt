@@ -4,7 +4,7 @@ ghost use Rattle.a2l.specs.Units.{unit_at};
 ghost use Rattle.a2l.specs.Resolved.{described_method};
 
 use a2l_entries::{Layout, PacketForm};
-use measured_values::{Conversion, Encoding, Tick};
+use measured_values::{Conversion, Encoding, Tick, ValueLimits};
 
 /// What an A2L file says of what can be measured.
 #[derive(Debug, Drop)]
@@ -28,6 +28,8 @@ pub struct Description {
 #[derive(Debug, Drop)]
 pub struct Measurement {
     pub name: String,
+    /// Its long identifier: empty, if that has more than 1024 bytes.
+    pub identifier: String,
     /// How the value stands in its bytes.
     pub encoding: Encoding,
     /// Where its bytes, or those of its first element, begin (ECU_ADDRESS).
@@ -36,6 +38,8 @@ pub struct Measurement {
     pub method: Option<usize>,
     /// Its own unit (PHYS_UNIT).
     pub unit: Option<String>,
+    /// LowerLimit and UpperLimit, if the first is less than the second.
+    pub limits: Option<ValueLimits>,
     /// The dimensions of an array, x first, without those of 1 at their end (MATRIX_DIM,
     /// ARRAY_SIZE). A single value has none.
     pub dims: Vec<u64>,

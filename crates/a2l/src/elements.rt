@@ -31,8 +31,8 @@ impl Measurement {
         u32::try_from(address).ok()
     }
 
-    /// An element as a value of its own, at its address. Its name has its indices behind that of
-    /// the array, in the order of the dimensions: `name[x][y]`.
+    /// An element as a value of its own, at its address: the array's, but for its name, which has
+    /// its indices behind that of the array, in the order of the dimensions: `name[x][y]`.
     pub fn element(
         &self,
         alloc: Global,
@@ -44,13 +44,16 @@ impl Measurement {
     {
         let mut name = self.name.clone()?;
         push_indices(&mut name, self.layout, index as u64, &self.dims)?;
+        let identifier = self.identifier.clone()?;
         let unit = copy_of_text(&self.unit)?;
         Ok(Measurement {
             name,
+            identifier,
             encoding: self.encoding,
             address,
             method: self.method,
             unit,
+            limits: self.limits,
             dims: Vec::new(alloc),
             layout: self.layout,
         })

@@ -298,6 +298,7 @@ fn measured(
         (measurement_seen block.now) method address) }
 {
     let name = block.name.clone()?;
+    let identifier = block.identifier.clone()?;
     let unit = copy_of_text(&block.options.unit)?;
     let dims = Vec::from_slice(alloc, block.options.dims())?;
     let encoding = Encoding {
@@ -308,10 +309,12 @@ fn measured(
     };
     Ok(Measurement {
         name,
+        identifier,
         encoding,
         address,
         method,
         unit,
+        limits: block.limits,
         dims,
         layout: block.options.layout(),
     })

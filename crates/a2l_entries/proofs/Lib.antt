@@ -2,3 +2,4 @@ pub mod SaidLemmas
 pub mod ScanLemmas
 pub mod OptionLemmas
 mod DimensionLemmas
+mod WorkedRows

@@ -2,19 +2,19 @@
 use Rattle.std.proofs.Common.{◌≡◌, ℕ, zero, suc, ◌<◌, ◌≤◌, ◌^◌, Bool, true, false, cond, ltb, List, [], ◌∷◌, length, drop, Option, Some, None, refl, sym, ap, ◌∙◌, arith}
 use Rattle.std.specs.Prelude.{pos, encode_utf8_all, IsUtf8, ◌&&◌}
 use Rattle.std.specs.Bool.{MatchBool}
-use Rattle.std.specs.Option.{SomeIff, option_map, option_and_then}
+use Rattle.std.specs.Option.{SomeIff, option_map, option_and_then, unwrap_or}
 use Rattle.std.specs.Char.{digit_value}
 use Rattle.std.specs.Str.{is_utf8}
-use Rattle.std.specs.Str.Parse.{IsNumeral, AllDigits, digits_value}
+use Rattle.std.specs.Str.Parse.{AllDigits}
 use Rattle.std.specs.Float.{binary64}
 use Rattle.std.specs.Float.Ieee.{Float, of_int}
-use Rattle.std.proofs.lemmas.Bool.{lt-ltb, le-ltb, ltb-true, ltb-false}
+use Rattle.std.proofs.lemmas.Bool.{lt-ltb, le-ltb, ltb-true}
 use Rattle.std.proofs.lemmas.Str.{IsUtf8-from_is_utf8, is_utf8-from_IsUtf8}
 use Rattle.fast_float.specs.Parse.{parse_float}
 use Rattle.a2l_text.specs.Tokens.{Token}
 use Rattle.a2l_text.specs.Texts.{unescaped, IsDecoded}
 use Rattle.a2l_text.specs.Numbers.{is_hexadecimal, radix_of, digits_of, IsInteger, integer_value, if_finite, SaysNumber}
-use Rattle.a2l_entries.specs.Said.{plain_said, integer_said, decoded, kept, all_digits, is_integer, integer_in, nearest, number_in, behind}
+use Rattle.a2l_entries.specs.Said.{plain_said, integer_said, decoded, kept, kept_or_empty, all_digits, is_integer, integer_in, nearest, number_in, behind}
 
 -- ---- texts
 
@@ -28,6 +28,9 @@ text_is_decoded bytes text d = by_test (is_utf8 bytes) bytes text refl d
 pub kept_some : (bytes text : List ℕ) → length bytes ≤ 1024 → IsDecoded (unescaped bytes) text → kept bytes ≡ Some text
 unfolding kept
 kept_some bytes text le d = rw (le-ltb 1024 (length bytes) le) (ap Some (sym (text_is_decoded (unescaped bytes) text d)))
+
+pub kept_all : (bytes text : List ℕ) → length bytes ≤ 1024 → IsDecoded (unescaped bytes) text → text ≡ kept_or_empty bytes
+kept_all bytes text le d = sym (ap (λ (o : Option (List ℕ)). unwrap_or o []) (kept_some bytes text le d))
 
 -- ---- integers
 

@@ -4,10 +4,12 @@ use Rattle.std.specs.Prelude.{List, [], ◌∷◌, codes, Option, Some, None, if
 use Rattle.std.specs.Prelude.{◌&&◌, is_some, length, nat_le}
 use Rattle.std.specs.Global.{Vec}
 use Rattle.std.specs.Option.{option_map, option_or, unwrap_or}
+use Rattle.std.specs.Float.Ieee.{Float, lt}
 use Rattle.a2l_text.specs.Tokens.{Token}
 use Rattle.measured_values.specs.declared.bit_operation.BitOperation.{BitOperation}
 use Rattle.measured_values.specs.declared.byte_order.ByteOrder.{ByteOrder}
 use Rattle.measured_values.specs.declared.data_type.DataType.{DataType}
+use Rattle.measured_values.specs.declared.value_limits.ValueLimits.{ValueLimits}
 use Rattle.a2l_entries.specs.declared.keywords.MeasurementKeyword.{MeasurementKeyword}
 use Rattle.a2l_entries.specs.declared.keywords.MeasurementKeyword.TheVariants as option
 use Rattle.a2l_entries.specs.declared.keywords.OperationKeyword.{OperationKeyword}
@@ -17,7 +19,7 @@ use Rattle.a2l_entries.specs.declared.measurement_block.MeasurementBlock.{Measur
 use Rattle.a2l_entries.specs.declared.said.Reference.{Reference}
 use Rattle.a2l_entries.specs.Gives.{◌>>=◌}
 use Rattle.a2l_entries.specs.Said.{first_of, name_said, text_said, number_said, integer_said}
-use Rattle.a2l_entries.specs.Said.{name_first, behind_text, number_first}
+use Rattle.a2l_entries.specs.Said.{name_first, identifier_first, number_first}
 use Rattle.a2l_entries.specs.Scans.{scanned}
 use Rattle.a2l_entries.specs.Keywords.{measurement_keyword, arguments_of, order_said}
 use Rattle.a2l_entries.specs.Keywords.{data_type_said, is_keyword, layout_said}
@@ -211,9 +213,11 @@ options_said ws =
 -- what a MEASUREMENT says
 pub record Measured : Type 0 where
   pub name : List ℕ
+  pub identifier : List ℕ
   pub data_type : DataType
   -- the name of its method, if it has one
   pub method : Option (List ℕ)
+  pub limits : Option ValueLimits
   pub options : Options
 
 abbrev pub name_of : Reference → List ℕ
@@ -222,8 +226,10 @@ name_of r = string_bytes r.name
 abbrev pub measurement_seen : MeasurementBlock → Measured
 measurement_seen m = record {
   name = string_bytes m.name;
+  identifier = string_bytes m.identifier;
   data_type = m.data_type;
   method = option_map name_of m.method;
+  limits = m.limits;
   options = options_seen m.options;
 }
 
@@ -245,23 +251,35 @@ instance_said ws = do
   name ← name_first ws
   Some name.0
 
--- behind the resolution, the accuracy and the two limits
-unfoldable pub behind_limits : List Token → Option (List Token)
-behind_limits ws = do
+-- the limits, if the lower one is less than the upper one
+abbrev pub limits_of : Float → Float → Option ValueLimits
+limits_of least greatest =
+    if lt least greatest then Some (record { least = least; greatest = greatest }) else None
+
+-- the two limits, which stand behind the resolution and the accuracy
+unfoldable pub limits_first : List Token → Option (Option ValueLimits × List Token)
+limits_first ws = do
   resolution ← number_first ws
   accuracy ← number_first resolution.1
   least ← number_first accuracy.1
   greatest ← number_first least.1
-  Some greatest.1
+  Some (limits_of least.0 greatest.0, greatest.1)
 
 -- name, long identifier, data type, method, resolution, accuracy, limits and options
 unfoldable pub measurement_said : List Token → Option Measured
 measurement_said ws = do
   name ← name_first ws
-  left ← behind_text name.1
-  word ← first_of left
+  identifier ← identifier_first name.1
+  word ← first_of identifier.1
   data_type ← data_type_said word.0
   method ← method_first word.1
-  behind ← behind_limits method.1
-  options ← options_said behind
-  Some (record { name = name.0; data_type = data_type; method = method.0; options = options })
+  limits ← limits_first method.1
+  options ← options_said limits.1
+  Some (record {
+    name = name.0;
+    identifier = identifier.0;
+    data_type = data_type;
+    method = method.0;
+    limits = limits.0;
+    options = options;
+  })

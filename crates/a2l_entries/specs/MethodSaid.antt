@@ -1,5 +1,5 @@
 -- What a block COMPU_METHOD says (ASAM MCD-2 MC, COMPU_METHOD).
-use Rattle.std.specs.Prelude.{ℕ, zero, suc, Bool, true, false, not, ◌||◌, List, [], ◌∷◌, Option}
+use Rattle.std.specs.Prelude.{ℕ, Bool, false, not, List, Option}
 use Rattle.std.specs.Prelude.{Some, None, if◌then◌else◌, string_bytes}
 use Rattle.std.specs.Option.{option_map, option_or}
 use Rattle.std.specs.Float.Ieee.{Float, eq, of_bits, binary64}

@@ -1,8 +1,8 @@
 -- What single words say: names, texts and numbers.
-use Rattle.std.specs.Prelude.{ℕ, ◌-◌, Bool, true, false, zero, suc, List, [], ◌∷◌, length, ◌^◌}
-use Rattle.std.specs.Prelude.{◌&&◌, nat_lt, nat_le, Option, Some, None, if◌then◌else◌, pos, map}
+use Rattle.std.specs.Prelude.{ℕ, Bool, true, zero, suc, List, [], ◌∷◌, length, ◌^◌}
+use Rattle.std.specs.Prelude.{◌&&◌, nat_lt, Option, Some, None, if◌then◌else◌, pos, map}
 use Rattle.std.specs.Prelude.{encode_utf8_all}
-use Rattle.std.specs.Option.{option_map, option_and_then}
+use Rattle.std.specs.Option.{option_map, option_and_then, unwrap_or}
 use Rattle.std.specs.Char.{digit_value}
 use Rattle.std.specs.Str.{is_utf8}
 use Rattle.std.specs.Float.{binary64}
@@ -58,11 +58,19 @@ decoded bytes = if is_utf8 bytes then bytes else encode_utf8_all bytes
 unfoldable pub kept : List ℕ → Option (List ℕ)
 kept bytes = if nat_lt 1024 (length bytes) then None else Some (decoded (unescaped bytes))
 
+-- the same, or nothing, if they are too many
+abbrev pub kept_or_empty : List ℕ → List ℕ
+kept_or_empty bytes = unwrap_or (kept bytes) []
+
 unfoldable pub name_said : Token → Option (List ℕ)
 name_said w = plain_said w >>= kept
 
 unfoldable pub text_said : Token → Option (List ℕ)
 text_said w = quoted_said w >>= kept
+
+-- a long identifier: nothing, if it is too long
+unfoldable pub identifier_said : Token → Option (List ℕ)
+identifier_said w = option_map kept_or_empty (quoted_said w)
 
 abbrev pub all_digits : ℕ → List ℕ → Bool
 all_digits radix [] = true
@@ -105,6 +113,12 @@ text_first ws = do
   first ← first_of ws
   text ← text_said first.0
   Some (text, first.1)
+
+unfoldable pub identifier_first : List Token → Option (List ℕ × List Token)
+identifier_first ws = do
+  first ← first_of ws
+  identifier ← identifier_said first.0
+  Some (identifier, first.1)
 
 unfoldable pub behind_text : List Token → Option (List Token)
 behind_text ws = do

@@ -1,5 +1,5 @@
 -- What a block COMPU_VTAB or COMPU_VTAB_RANGE says (ASAM MCD-2 MC, COMPU_VTAB).
-use Rattle.std.specs.Prelude.{ℕ, zero, suc, Bool, List, [], ◌∷◌, map, codes, Option, Some, None}
+use Rattle.std.specs.Prelude.{ℕ, List, map, codes, Option, Some, None}
 use Rattle.std.specs.Prelude.{if◌then◌else◌, string_bytes}
 use Rattle.std.specs.Option.{option_map}
 use Rattle.std.specs.Float.Ieee.{Float}

@@ -1,16 +1,17 @@
 //! Names, texts and numbers are read off single words, or refused with their place.
-ghost use Rattle.std.specs.Prelude.{◌≡◌, option_copied, string_bytes};
+ghost use Rattle.std.specs.Prelude.{◌≡◌, IfOk, option_copied, string_bytes};
 ghost use Rattle.a2l_entries.specs.Gives.{Gives};
 ghost use Rattle.a2l_entries.specs.Said.{token_at, tokens_of, plain_said, name_said, text_said};
 ghost use Rattle.a2l_entries.specs.Said.{kept, number_said, integer_said, name_first, text_first};
-ghost use Rattle.a2l_entries.specs.Said.{behind_text, number_first};
+ghost use Rattle.a2l_entries.specs.Said.{behind_text, number_first, identifier_first};
+ghost use Rattle.a2l_entries.specs.Said.{identifier_said, kept_or_empty};
 
 use crate::awaited::Awaited;
 use crate::entry_fault::EntryFault;
 use crate::left::Left;
 use crate::refused::Refused;
 use a2l_text::{Located, Word, integer_of, number_of, text_of};
-use std::alloc::Global;
+use std::alloc::{AllocError, Global};
 
 /// How many bytes a name or a text that is kept may have.
 pub const MAX_LENGTH: usize = 1024;
@@ -74,6 +75,28 @@ fn kept(alloc: Global, bytes: &[u8], at: usize) -> Result<String, EntryFault>
     Ok(text_of(alloc, bytes)?)
 }
 
+/// A long identifier: nothing, if it has more than 1024 bytes.
+#[tactic(auto, unfolding(crate::specs::Said::identifier_said))]
+fn identifier_in(alloc: Global, word: Located<'_>) -> Result<String, EntryFault>
+    ensures { Gives (λ s. string_bytes s) result (identifier_said (token_at word.entry)) }
+{
+    match word.word {
+        Word::Quoted(bytes) => Ok(kept_or_empty(alloc, bytes)?),
+        _ => Err(EntryFault::Awaited(word.at, Awaited::Text)),
+    }
+}
+
+/// What bytes say, or nothing, if they are more than 1024.
+#[tactic(auto, unfolding(crate::specs::Said::kept))]
+fn kept_or_empty(alloc: Global, bytes: &[u8]) -> Result<String, AllocError>
+    ensures { IfOk result (λ s. string_bytes s ≡ kept_or_empty bytes.now) }
+{
+    if bytes.len() > MAX_LENGTH {
+        return Ok(String::new(alloc));
+    }
+    Ok(text_of(alloc, bytes)?)
+}
+
 /// A finite number.
 #[tactic(auto, unfolding(crate::specs::Said::number_said))]
 pub fn number_in(word: Located<'_>) -> Result<f64, EntryFault>
@@ -124,6 +147,16 @@ impl<'w, 'a> Left<'w, 'a> {
     {
         let (word, left) = self.first(Awaited::Text)?;
         Ok((text_in(alloc, word)?, left))
+    }
+
+    /// The long identifier that comes first: nothing, if it has more than 1024 bytes.
+    #[tactic(auto, unfolding(crate::specs::Said::identifier_first))]
+    pub fn identifier(self, alloc: Global) -> Result<(String, Left<'w, 'a>), EntryFault>
+        ensures { Gives (λ x. (string_bytes x.0, tokens_of x.1)) result
+            (identifier_first (tokens_of self.entry)) }
+    {
+        let (word, left) = self.first(Awaited::Text)?;
+        Ok((identifier_in(alloc, word)?, left))
     }
 
     /// What is behind the text that comes first, however long it is.

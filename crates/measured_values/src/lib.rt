@@ -20,6 +20,7 @@ mod text_table;
 mod tick;
 mod tick_text;
 mod trailing_zeros;
+mod value_limits;
 
 pub use bit_operation::BitOperation;
 pub use byte_order::ByteOrder;
@@ -36,3 +37,4 @@ pub use tally::Tally;
 pub use text_table::{TextRow, TextTable};
 pub use tick::Tick;
 pub use tick_text::tick_of;
+pub use value_limits::ValueLimits;

@@ -4,5 +4,6 @@ mod CsvLemmas
 mod ElementLemmas
 mod FieldLemmas
 mod LineLemmas
+mod PlaceLemmas
 mod SourceLemmas
 mod TallyLemmas

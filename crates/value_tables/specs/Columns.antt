@@ -43,10 +43,12 @@ unit_shown d m =
 -- a column is that of a measurement
 pub record IsColumnOf (d : Description) (m : Measurement) (column : Column) : Type 0 where
   pub name : column.name.now ≡ string_bytes m.name
+  pub identifier : column.identifier.now ≡ string_bytes m.identifier
   pub unit : column.unit.now ≡ unit_shown d m
   pub encoding : column.encoding ≡ m.encoding
   pub address : column.address ≡ m.address
   pub conversion : option_copied column.conversion ≡ conversion_in d m
+  pub limits : column.limits ≡ m.limits
 
 -- who has these bytes has all of a measurement
 abbrev pub is_held : (ℕ → ℕ → Bool) → Measurement → Bool

@@ -3,6 +3,7 @@ pub mod Elements
 pub mod Fields
 pub mod Holders
 pub mod Lists
+pub mod Places
 pub mod Sources
 pub mod TallyText
 pub mod ValueRows

@@ -74,10 +74,12 @@ fn column_of<'a>(description: &'a Description, measurement: &'a Measurement) -> 
 {
     Column {
         name: &measurement.name,
+        identifier: &measurement.identifier,
         unit: unit_of(description, measurement),
         encoding: measurement.encoding,
         address: measurement.address,
         conversion: conversion_of(description, measurement),
+        limits: measurement.limits,
     }
 }
 

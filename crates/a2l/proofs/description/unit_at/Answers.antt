@@ -1,8 +1,7 @@
-use Rattle.std.proofs.Common.{Option, sym, ap, ◌∙◌, refl}
+use Rattle.std.proofs.Common.{sym, ap, ◌∙◌}
 use Rattle.std.specs.Option.{option_map}
-use Rattle.a2l.specs.declared.description.Method.{Method}
 use Rattle.a2l.specs.Units.{unit_in}
-use Rattle.a2l.specs.Resolved.{Conversions, described_method}
+use Rattle.a2l.specs.Resolved.{described_method}
 use Rattle.a2l.proofs.NameLemmas.{none_at, some_at, get_map}
 use Rattle.a2l.proofs.description.unit_at.Goals as goal
 

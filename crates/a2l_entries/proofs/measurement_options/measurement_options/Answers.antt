@@ -1,9 +1,9 @@
-use Rattle.std.proofs.Common.{◌≡◌, length, map, ap, sym, ◌∙◌, arith}
+use Rattle.std.proofs.Common.{map, ap}
 use Rattle.std.proofs.lemmas.Result.{err_from_is_err_and}
 use Rattle.a2l_entries.specs.Said.{token_at, tokens_of}
 use Rattle.a2l_entries.specs.Keywords.{measurement_keyword, arguments_of}
 use Rattle.a2l_entries.specs.MeasurementSaid.{options_seen, no_options, options_or, option_said, options_said}
-use Rattle.a2l_entries.proofs.ScanLemmas.{fewer_left, none_left, no_tokens, starts, options_go_on, options_stop, options_stop_behind, options_done}
+use Rattle.a2l_entries.proofs.ScanLemmas.{fewer_left, none_left, no_tokens, options_go_on, options_stop, options_stop_behind, options_done}
 use Rattle.a2l_entries.proofs.OptionLemmas.{options_monoid}
 use Rattle.a2l_entries.proofs.measurement_options.measurement_options.Goals as goal
 

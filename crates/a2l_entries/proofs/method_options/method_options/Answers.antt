@@ -1,9 +1,9 @@
-use Rattle.std.proofs.Common.{◌≡◌, length, map, ap, sym, ◌∙◌, arith}
+use Rattle.std.proofs.Common.{map, ap}
 use Rattle.std.proofs.lemmas.Result.{err_from_is_err_and}
 use Rattle.a2l_entries.specs.Said.{token_at, tokens_of}
 use Rattle.a2l_entries.specs.Keywords.{method_keyword, method_arguments_of}
 use Rattle.a2l_entries.specs.MethodSaid.{method_options_seen, no_method_options, method_options_or, method_option_said, method_options_said}
-use Rattle.a2l_entries.proofs.ScanLemmas.{none_left, no_tokens, starts, options_go_on, options_stop, options_stop_behind, options_done}
+use Rattle.a2l_entries.proofs.ScanLemmas.{none_left, no_tokens, options_go_on, options_stop, options_stop_behind, options_done}
 use Rattle.a2l_entries.proofs.OptionLemmas.{method_options_monoid}
 use Rattle.a2l_entries.proofs.method_options.method_options.Goals as goal
 

@@ -1,4 +1,4 @@
-use Rattle.std.proofs.Common.{Some, length, refl, ap, ◌∙◌, arith}
+use Rattle.std.proofs.Common.{Some, refl, ap, ◌∙◌, arith}
 use Rattle.std.proofs.lemmas.List.{length-map, drop-map}
 use Rattle.a2l_entries.specs.Said.{token_at, tokens_of}
 use Rattle.a2l_entries.proofs.SaidLemmas.{behind_some, behind_none}
