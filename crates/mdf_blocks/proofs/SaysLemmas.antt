@@ -37,7 +37,7 @@ use Rattle.mdf_blocks.specs.declared.data_group.DataGroup.{DataGroup}
 use Rattle.mdf_blocks.specs.declared.file_header.FileHeader.{FileHeader}
 use Rattle.mdf_blocks.specs.declared.file_history.FileHistory.{FileHistory}
 use Rattle.mdf_blocks.specs.declared.listed_data.ListedData.{ListedData}
-use Rattle.mdf_blocks.specs.declared.value_limits.ValueLimits.{ValueLimits}
+use Rattle.measured_values.specs.declared.value_limits.ValueLimits.{ValueLimits}
 use Rattle.mdf_blocks.proofs.PartLemmas.{AreUint64s-written, part_at}
 
 group_says : (g : ChannelGroup) → FitsGroup g → SaysChannelGroup (cg_links g) (cg_body g) g

@@ -21,7 +21,7 @@ use Rattle.mdf_blocks.specs.declared.file_state.FileState.{FileState}
 use Rattle.mdf_blocks.specs.declared.listed_data.ListedData.{ListedData}
 use Rattle.mdf_blocks.specs.declared.time.Time.{Time as TimeOf}
 use Rattle.mdf_blocks.specs.declared.value_format.ValueFormat.{ValueFormat}
-use Rattle.mdf_blocks.specs.declared.value_limits.ValueLimits.{ValueLimits}
+use Rattle.measured_values.specs.declared.value_limits.ValueLimits.{ValueLimits}
 use Rattle.mdf_blocks.specs.declared.zone.Zone.{Zone}
 use Rattle.mdf_blocks.proofs.CodeLemmas.{same_conversion_kind, same_format, same_kind, same_state}
 use Rattle.mdf_blocks.proofs.CodeLemmas.{same_zone}

@@ -19,7 +19,7 @@ use Rattle.mdf_blocks.specs.declared.file_header.FileHeader.{FileHeader}
 use Rattle.mdf_blocks.specs.declared.file_history.FileHistory.{FileHistory}
 use Rattle.mdf_blocks.specs.declared.listed_data.ListedData.{ListedData}
 use Rattle.mdf_blocks.specs.declared.time.Time.{Time}
-use Rattle.mdf_blocks.specs.declared.value_limits.ValueLimits.{ValueLimits}
+use Rattle.measured_values.specs.declared.value_limits.ValueLimits.{ValueLimits}
 
 -- ID: whether the file is finished, and its version
 pub record SaysState (bytes : List ℕ) (state : FileState) : Type 0 where

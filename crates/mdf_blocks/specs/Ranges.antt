@@ -11,7 +11,7 @@ use Rattle.mdf_blocks.specs.declared.channel_group.ChannelGroup.{ChannelGroup}
 use Rattle.mdf_blocks.specs.declared.file_header.FileHeader.{FileHeader}
 use Rattle.mdf_blocks.specs.declared.listed_data.ListedData.{ListedData}
 use Rattle.mdf_blocks.specs.declared.time.Time.{Time}
-use Rattle.mdf_blocks.specs.declared.value_limits.ValueLimits.{ValueLimits}
+use Rattle.measured_values.specs.declared.value_limits.ValueLimits.{ValueLimits}
 
 -- a float of 64 bits
 abbrev pub IsReal : Float → Type 0

@@ -20,7 +20,7 @@ use Rattle.mdf_blocks.specs.declared.file_state.FileState.TheVariants.{Finished,
 use Rattle.mdf_blocks.specs.declared.value_format.ValueFormat.{ValueFormat}
 use Rattle.mdf_blocks.specs.declared.value_format.ValueFormat.TheVariants.{Float as FloatOf}
 use Rattle.mdf_blocks.specs.declared.value_format.ValueFormat.TheVariants.{Signed, Unsigned}
-use Rattle.mdf_blocks.specs.declared.value_limits.ValueLimits.{ValueLimits}
+use Rattle.measured_values.specs.declared.value_limits.ValueLimits.{ValueLimits}
 use Rattle.mdf_blocks.specs.declared.zone.Zone.{Zone}
 use Rattle.mdf_blocks.specs.declared.zone.Zone.TheVariants.{Local, Offsets, Utc}
 

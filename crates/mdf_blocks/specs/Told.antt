@@ -19,7 +19,7 @@ use Rattle.mdf_blocks.specs.declared.file_state.FileState.{FileState}
 use Rattle.mdf_blocks.specs.declared.listed_data.ListedData.{ListedData}
 use Rattle.mdf_blocks.specs.declared.time.Time.{Time}
 use Rattle.mdf_blocks.specs.declared.value_format.ValueFormat.{ValueFormat}
-use Rattle.mdf_blocks.specs.declared.value_limits.ValueLimits.{ValueLimits}
+use Rattle.measured_values.specs.declared.value_limits.ValueLimits.{ValueLimits}
 
 -- a text: TX or MD
 abbrev pub TellsText : List ℕ → List ℕ → ℕ → Option (List ℕ) → Type 0

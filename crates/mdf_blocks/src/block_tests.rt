@@ -1,11 +1,11 @@
 //! Blocks against the bytes that the format's tables say.
 use crate::{
     Axis, Channel, ChannelGroup, ChannelKind, ConversionKind, DataGroup, FileHeader, FileHistory,
-    FileState, ListedData, Time, ValueFormat, ValueLimits, Zone, data_head, identification,
-    push_channel, push_channel_group, push_comment, push_conversion, push_data_group,
-    push_data_list, push_file_header, push_file_history, push_text, worked_bytes as worked,
+    FileState, ListedData, Time, ValueFormat, Zone, data_head, identification, push_channel,
+    push_channel_group, push_comment, push_conversion, push_data_group, push_data_list,
+    push_file_header, push_file_history, push_text, worked_bytes as worked,
 };
-use measured_values::ByteOrder;
+use measured_values::{ByteOrder, ValueLimits};
 use std::alloc::{AllocError, Global};
 use std::process::Abort;
 use std::test::Fail;

@@ -1,7 +1,7 @@
 //! A channel.
 use crate::channel_kind::ChannelKind;
 use crate::value_format::ValueFormat;
-use crate::value_limits::ValueLimits;
+use measured_values::ValueLimits;
 
 /// One value of each record (ASAM MDF 4.1, CN). A link is a place in the file, or 0.
 #[derive(Clone, Copy, Debug)]

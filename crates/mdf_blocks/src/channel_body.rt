@@ -7,8 +7,7 @@ use crate::axis::Axis;
 use crate::channel::Channel;
 use crate::channel_kind::ChannelKind;
 use crate::value_format::ValueFormat;
-use crate::value_limits::ValueLimits;
-use measured_values::ByteOrder;
+use measured_values::{ByteOrder, ValueLimits};
 use std::num::f64_to_bits_with_nan;
 
 /// The links of a channel.

@@ -35,7 +35,6 @@ mod texts;
 mod time;
 mod time_bytes;
 mod value_format;
-mod value_limits;
 mod value_place;
 #[cfg(test)]
 mod worked_bytes;
@@ -67,6 +66,5 @@ pub use table_places::text_places;
 pub use texts::{push_comment, push_text};
 pub use time::Time;
 pub use value_format::ValueFormat;
-pub use value_limits::ValueLimits;
 pub use value_place::ValuePlace;
 pub use zone::Zone;

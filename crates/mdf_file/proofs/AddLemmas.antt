@@ -2,7 +2,7 @@
 use Rattle.std.proofs.Common.{◌≡◌, ◌∙◌, ℕ, ◌+◌, ◌%◌, List, [], ◌++◌, length, ap, refl, sym, subst}
 use Rattle.std.proofs.Common.{append-nil, append_assoc, arith, length-append}
 use Rattle.std.proofs.Common.{◌-◌, ◌<◌, ◌∷◌, suc, drop, get_or, Bool}
-use Rattle.std.proofs.Common.{true, false, Result, Ok, Err, IfOk, OnOk, T}
+use Rattle.std.proofs.Common.{true, false, Result, Ok, Err, IfOk, OnErr, OnOk, T}
 use Rattle.std.proofs.Math.Seq.{drop-cons}
 use Rattle.mdf_blocks.specs.Blocks.{IsBlock, IsBlockAt, block, block_len, fill_len, filled}
 use Rattle.mdf_blocks.specs.Numbers.{zeros}
@@ -163,3 +163,11 @@ pub on_if : {T E : Type 0} {P : T → Type 0} {Q : Type 0} (r : Result T E)
     → ((x : T) → P x → Q) → IfOk r P → OnOk r Q
 on_if (Ok x) f h = f x h
 on_if (Err e) f h = tt
+
+pub any_ok : {T E : Type 0} {Q : Type 0} (r : Result T E) → Q → OnOk r Q
+any_ok (Ok x) q = q
+any_ok (Err e) q = tt
+
+pub any_err : {T E : Type 0} {Q : Type 0} (r : Result T E) → Q → OnErr r Q
+any_err (Ok x) q = tt
+any_err (Err e) q = q

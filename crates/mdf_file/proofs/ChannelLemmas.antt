@@ -9,7 +9,7 @@ use Rattle.mdf_blocks.specs.Blocks.{IsBlock, IsBlockAt}
 use Rattle.mdf_blocks.specs.Ranges.{FitsChannel}
 use Rattle.mdf_blocks.specs.Numbers.{zeros}
 use Rattle.mdf_blocks.specs.Tables.{cn_block, cn_body, cn_links, limit_bytes}
-use Rattle.mdf_blocks.specs.declared.value_limits.ValueLimits.{ValueLimits}
+use Rattle.measured_values.specs.declared.value_limits.ValueLimits.{ValueLimits}
 use Rattle.mdf_blocks.specs.Told.{IsChannelAt, TellsChannels, TellsConversion, TellsText}
 use Rattle.mdf_blocks.specs.Told.{ToldConversion}
 use Rattle.mdf_blocks.specs.declared.channel.Channel.{Channel}

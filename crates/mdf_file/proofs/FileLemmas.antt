@@ -1,4 +1,4 @@
--- A whole file.
+-- Both ends of a file.
 use Rattle.std.proofs.Common.{◌≡◌, ◌≢◌, ◌∙◌, ℕ, ◌+◌, ◌^◌, ◌<◌, List, [], ◌∷◌, ◌++◌, Some}
 use Rattle.std.proofs.Common.{append-nil, append_assoc, ap, arith}
 use Rattle.std.proofs.Common.{codes, length, length-append, lit<}
@@ -58,7 +58,7 @@ length-id (Unfinished cycles last_data last_list) program long =
     (sym (eight_of program long))
 
 -- the identification and the header have 168 bytes
-length-front : (state : FileState) (program : List ℕ) (h : FileHeader) → length program ≡ 8
+pub length-front : (state : FileState) (program : List ℕ) (h : FileHeader) → length program ≡ 8
     → length (id_block state program ++ hd_block h) ≡ 168
 length-front state program h long =
     omega (
@@ -66,48 +66,6 @@ length-front state program h long =
       length-id state program long,
       length-append (id_block state program) (hd_block h),
     )
-
--- a file tells what stands behind its header
-pub file_says : (program behind behind2 old new : List ℕ) (h : FileHeader)
-    (histories : List ToldHistory) (groups : List ToldGroup) → length program ≡ 8 → FitsHeader h
-    → old ≡ [] → behind2 ≡ behind
-    → new ≡ old ++ (id_block Finished program ++ hd_block h ++ behind2)
-    → Says 168 behind (λ bytes. TellsHistories bytes h.first_history histories)
-    → Says 168 behind (λ bytes. TellsGroups bytes h.first_group groups)
-    → TellsFile new (record {
-      state = Finished;
-      start = h.start;
-      histories = histories;
-      groups = groups;
-    })
-file_says program behind behind2 old new h histories groups long fits none same is hs gs =
-    let front : List ℕ = id_block Finished program ++ hd_block h in
-    let whole : front ++ behind ++ [] ≡ front ++ behind = append-nil (front ++ behind) in
-    let bytes : new ≡ front ++ behind =
-    is ∙ ap (λ (os : List ℕ). os ++ (front ++ behind2)) none
-    ∙ ap (λ (bs : List ℕ). front ++ bs) same in
-    let begins : length front ≡ 168 = length-front Finished program h long in
-    subst (λ (bs : List ℕ). TellsFile bs (record {
-      state = Finished;
-      start = h.start;
-      histories = histories;
-      groups = groups;
-    })) (sym bytes)
-    (written_is_told.file Finished program behind h histories groups long fits
-    (subst (λ (bs : List ℕ). TellsHistories bs h.first_history histories) whole
-    (hs front [] begins))
-    (subst (λ (bs : List ℕ). TellsGroups bs h.first_group groups) whole (gs front [] begins)))
-
-joined : (old first header behind : List ℕ)
-    → old ++ first ++ header ++ behind ≡ old ++ (first ++ header ++ behind)
-joined old first header behind = simp append_assoc
-
-pub file_written : (old first header behind one two new : List ℕ) → one ≡ old ++ first
-    → two ≡ one ++ header → new ≡ two ++ behind → new ≡ old ++ (first ++ header ++ behind)
-file_written old first header behind one two new one_is two_is new_is =
-    new_is
-    ∙ ap (λ (zs : List ℕ). zs ++ behind) (two_is ∙ ap (λ (zs : List ℕ). zs ++ header) one_is)
-    ∙ joined old first header behind
 
 ended : (front before behind : List ℕ)
     → front ++ (before ++ behind) ++ [] ≡ front ++ before ++ behind

@@ -6,3 +6,5 @@ pub mod ChannelLemmas
 pub mod GroupLemmas
 pub mod FileLemmas
 pub mod StreamLemmas
+pub mod StandingLemmas
+pub mod TellingLemmas

@@ -3,13 +3,10 @@ use Rattle.std.proofs.Common.{◌≡◌, ◌≢◌, ◌∙◌, ℕ, ◌+◌, ◌
 use Rattle.std.proofs.Common.{◌<◌, List, [], ◌∷◌, ◌++◌, All, length}
 use Rattle.std.proofs.Common.{codes, inl, inr, refl, sym, ap, subst, arith, length-append}
 use Rattle.std.proofs.Common.{append-nil, append_assoc}
-use Rattle.std.proofs.Common.{Bool, true, nat_eq, ◌*◌, get_or, lit<, map, take, vec_items}
+use Rattle.std.proofs.Common.{Bool, true, nat_eq, ◌*◌, get_or, lit<, take}
 use Rattle.std.proofs.lemmas.List.{length-map, map-append, take_more}
 use Rattle.std.proofs.lemmas.List.Elements.{All-cons, All-nil, All-push}
-use Rattle.std.proofs.lemmas.List.Folds.{concat-append}
-use Rattle.std.specs.Global.{Vec}
 use Rattle.std.proofs.lemmas.Bool.Decides.{nat_tests}
-use Rattle.std.specs.List.{concat}
 use Rattle.mdf_blocks.specs.Blocks.{IsBlock, IsBlockAt, block_len, fill_len, filled}
 use Rattle.mdf_blocks.specs.Numbers.{uint64s, zeros}
 use Rattle.mdf_blocks.specs.Ranges.{FitsList}
@@ -22,7 +19,6 @@ use Rattle.mdf_blocks.proofs.BlockLemmas.{length-block}
 use Rattle.mdf_blocks.proofs.NumberLemmas.{length-uint64s}
 use Rattle.mdf_file.specs.Adding.{Adds, AreSmall}
 use Rattle.mdf_file.proofs.AddLemmas.{adds_block, adds_both, adds_filled, adds_weaker, adds_written}
-use Rattle.mdf_file.proofs.TextLemmas.{mapped_more}
 
 pub adds_data : (place link : ℕ) (old new records : List ℕ) → link ≡ place + length old
     → (place + length old) % 8 ≡ 0 → length records < 2 ^ 63
@@ -99,13 +95,6 @@ data_written old head records one two new whole one_is two_is new_is =
     ∙ append_assoc old (dt_block records) fill
     ∙ last
 
--- so many blocks of records are listed, and these are their bytes
-abbrev pub ListsParts : ℕ → List ℕ → List ℕ → List ListedData → List ℕ → ℕ → Type 0
-ListsParts place old new blocks records before =
-    Adds place old new (λ bytes. AreListed bytes 0 blocks records)
-    × (before ≡ length records)
-    × AreSmall blocks
-
 small-more : (blocks : List ListedData) (b : ListedData) → AreSmall blocks → b.place < 2 ^ 64
     → b.offset < 2 ^ 64 → AreSmall (blocks ++ b ∷ [])
 small-more blocks b all low small =
@@ -115,57 +104,6 @@ small-more blocks b all low small =
       subst (All Small) (sym (map-append (λ (d : ListedData). d.offset) blocks (b ∷ [])))
           (All-push Small (offsets_of blocks) b.offset all.1 small),
     )
-
-parts_more : (place : ℕ) (old mid new : List ℕ) (blocks : List ListedData)
-    (records own : List ℕ) (at before : ℕ) → at < 2 ^ 64 → before < 2 ^ 64
-    → ListsParts place old mid blocks records before
-    → Adds place mid new (λ bytes. IsBlockAt bytes at (codes "##DT") [] own)
-    → ListsParts place old new (blocks ++ record { place = at; offset = before } ∷ [])
-    (records ++ own) (before + length own)
-parts_more place old mid new blocks records own at before low small so_far block =
-    let b : ListedData = record { place = at; offset = before } in
-    let here : before ≡ 0 + length records = omega (arith, so_far.1) in (
-      adds_weaker place old new
-          (λ bytes. AreListed bytes 0 blocks records
-          × IsBlockAt bytes at (codes "##DT") [] own)
-          (λ bytes. AreListed bytes 0 (blocks ++ b ∷ []) (records ++ own))
-          (λ bytes both. listed_more bytes 0 blocks records own b here both.0 both.1)
-          (adds_both place old mid new (λ bytes. AreListed bytes 0 blocks records)
-          (λ bytes. IsBlockAt bytes at (codes "##DT") [] own) so_far.0 block),
-      omega (arith, so_far.1, length-append records own),
-      small-more blocks b so_far.2 low small,
-    )
-
-joined_more : (parts : List (Vec ℕ)) (i : ℕ) (part : Vec ℕ) → i < length parts
-    → part ≡ get_or parts i part
-    → concat (map vec_items (take i parts)) ++ part.items
-    ≡ concat (map vec_items (take (i + 1) parts))
-joined_more parts i part within is =
-    sym
-    (ap concat (mapped_more vec_items parts i part within is)
-    ∙ concat-append (map vec_items (take i parts)) (part.items ∷ [])
-    ∙ ap (λ (zs : List ℕ). concat (map vec_items (take i parts)) ++ zs)
-    (append-nil part.items))
-
-pub part_added : (place : ℕ) (old mid new : List ℕ) (blocks blocks2 : List ListedData)
-    (parts : List (Vec ℕ)) (i : ℕ) (part : Vec ℕ) (at before after : ℕ) → i < length parts
-    → part ≡ get_or parts i part → blocks2 ≡ blocks ++ record { place = at; offset = before } ∷ []
-    → after ≡ before + length part.items → at < 2 ^ 64 → before < 2 ^ 64
-    → ListsParts place old mid blocks (concat (map vec_items (take i parts))) before
-    → Adds place mid new (λ bytes. IsBlockAt bytes at (codes "##DT") [] part.items)
-    → ListsParts place old new blocks2 (concat (map vec_items (take (i + 1) parts))) after
-part_added place old mid new blocks blocks2 parts i part at before after within is blocks_are
-    after_is low small so_far block =
-    subst (λ (bs : List ListedData). ListsParts place old new bs
-    (concat (map vec_items (take (i + 1) parts))) after) (sym blocks_are)
-    (subst (λ (n : ℕ). ListsParts place old new
-    (blocks ++ record { place = at; offset = before } ∷ [])
-    (concat (map vec_items (take (i + 1) parts))) n) (sym after_is)
-    (subst (λ (rs : List ℕ). ListsParts place old new
-    (blocks ++ record { place = at; offset = before } ∷ []) rs (before + length part.items))
-    (joined_more parts i part within is)
-    (parts_more place old mid new blocks (concat (map vec_items (take i parts))) part.items at
-    before low small so_far block)))
 
 pub no_list : (place : ℕ) (old : List ℕ) (blocks : List ListedData) (records : List ℕ)
     → length blocks ≡ 0 → Adds place old old (λ bytes. AreListed bytes 0 blocks records)

@@ -5,12 +5,12 @@ use Rattle.mdf_blocks.specs.Told.{AreListed, IsGroupAt, TellsChannels, TellsGrou
 use Rattle.mdf_blocks.specs.Told.{TellsText, ToldChannel, ToldGroup}
 use Rattle.mdf_blocks.specs.declared.listed_data.ListedData.{ListedData}
 use Rattle.mdf_file.specs.Adding.{Adds}
-use Rattle.mdf_file.specs.Streaming.{AreOf, HoldRecords, told_streamed}
+use Rattle.mdf_file.specs.Ending.{AreOf, HoldRecords, told_group}
 use Rattle.mdf_file.specs.declared.streamed_group.StreamedGroup.{StreamedGroup}
 use Rattle.mdf_file.proofs.AddLemmas.{adds_both, adds_none, adds_on, adds_weaker, says_longer}
 
 -- a group behind its records, its name and its channels
-pub streamed_behind : (place link first_name first listed next record_bytes : ℕ)
+pub group_behind : (place link first_name first listed next record_bytes : ℕ)
     (old a b e new : List ℕ) (blocks blocks2 : List ListedData) (name name2 : List ℕ)
     (channels channels2 : List ToldChannel) (all : List ℕ) → name2 ≡ name
     → channels2 ≡ channels → blocks2 ≡ blocks
@@ -33,7 +33,7 @@ pub streamed_behind : (place link first_name first listed next record_bytes : �
       record_bytes = record_bytes;
       records = all;
     }) next)
-streamed_behind place link first_name first listed next record_bytes old a b e new blocks blocks2
+group_behind place link first_name first listed next record_bytes old a b e new blocks blocks2
     name name2 channels channels2 all name_is channels_are blocks_are held one two three four =
     let Name : List ℕ → Type 0 = λ bytes.
     TellsText bytes (codes "##TX") first_name (Some name) in
@@ -61,13 +61,13 @@ streamed_behind place link first_name first listed next record_bytes old a b e n
 of_at : (gs : List StreamedGroup) (told : List ToldGroup) (at : ℕ) (g : StreamedGroup)
     → at < length gs → g ≡ get_or gs at g → AreOf gs told
     → (t : ToldGroup) × (drop at told ≡ t ∷ drop (suc at) told)
-    × (t ≡ told_streamed g t.records) × (length t.records ≡ g.len)
+    × (t ≡ told_group g t.records) × (length t.records ≡ g.len)
 of_at [] told at g within is are = absurd (omega (arith, within))
 of_at (x ∷ gs) [] at g within is are = absurd are
 of_at (x ∷ gs) (t ∷ ts) zero g within is are = (
   t,
   refl,
-  subst (λ (h : StreamedGroup). t ≡ told_streamed h t.records) (sym is) are.0,
+  subst (λ (h : StreamedGroup). t ≡ told_group h t.records) (sym is) are.0,
   subst (λ (h : StreamedGroup). length t.records ≡ h.len) (sym is) are.1,
 )
 of_at (x ∷ gs) (t ∷ ts) (suc at) g within is are =
@@ -95,7 +95,7 @@ rest_none (g ∷ gs) [] are = absurd are
 rest_none (g ∷ gs) (t ∷ ts) are = rest_none gs ts are.2
 
 -- one group more, in front of those that follow it
-pub streamed_more : (place link next : ℕ) (old mid new : List ℕ) (gs : List StreamedGroup)
+pub group_more : (place link next : ℕ) (old mid new : List ℕ) (gs : List StreamedGroup)
     (told : List ToldGroup) (behind : ℕ) (g : StreamedGroup) → behind < length gs
     → g ≡ get_or gs (length gs - 1 - behind) g → AreOf gs told
     → Adds place old old (λ bytes. HoldRecords bytes gs told)
@@ -103,10 +103,10 @@ pub streamed_more : (place link next : ℕ) (old mid new : List ℕ) (gs : List 
     → ((records : List ℕ) → length records ≡ g.len
     → Adds place mid mid (λ bytes. AreListed bytes 0 g.blocks.items records)
     → Adds place mid new (λ bytes. (link ≢ 0)
-    × IsGroupAt bytes link (told_streamed g records) next))
+    × IsGroupAt bytes link (told_group g records) next))
     → Adds place old new (λ bytes. TellsGroups bytes link
     (drop (length gs - (behind + 1)) told))
-streamed_more place link next old mid new gs told behind g within is are held later one =
+group_more place link next old mid new gs told behind g within is are held later one =
     let at : ℕ = length gs - 1 - behind in
     let inside : at < length gs = omega (arith, within) in
     let following : suc at ≡ length gs - behind = omega (arith, within) in

@@ -1,3 +1,6 @@
 pub mod Adding
 pub mod Describing
-pub mod Streaming
+pub mod Ending
+pub mod Outs
+pub mod Standing
+pub mod Writing

@@ -1,11 +1,9 @@
 //! What a file says of itself.
-use mdf_blocks::{FileState, Time};
+use mdf_blocks::Time;
 
 /// What a file says of itself (ASAM MDF 4.1, ID, HD and FH).
 #[derive(Debug, Drop)]
 pub struct About {
-    /// Whether the file is finished.
-    pub state: FileState,
     /// When the measurement began.
     pub start: Time,
     /// Eight letters that name the program.

@@ -1,23 +1,18 @@
 //! A small file against the bytes that the format's tables say.
-use crate::worked_file::{FILE, STREAMED};
-use crate::{
-    About, MdfFault, NewChannel, NewConversion, NewGroup, StreamedGroup, data_bytes, file_bytes,
-    file_end,
-};
-use mdf_blocks::{
-    Axis, ChannelKind, ConversionKind, FileState, ListedData, Time, ValueFormat, ValueLimits, Zone,
-};
-use measured_values::ByteOrder;
+use crate::worked_file::FILE;
+use crate::{About, MdfFault, NewChannel, NewConversion, StreamedGroup, data_bytes, file_end};
+use mdf_blocks::{Axis, ChannelKind, ConversionKind, ListedData, Time, ValueFormat, Zone};
+use measured_values::{ByteOrder, ValueLimits};
 use std::alloc::{AllocError, Global};
 use std::process::Abort;
 use std::test::Fail;
 
-const START: Time = Time {
+pub const START: Time = Time {
     nanoseconds: 1_700_000_000_000_000_000,
     zone: Zone::Utc,
 };
 
-const COMMENT: &str = "<FHcomment><TX>made</TX></FHcomment>";
+pub const COMMENT: &str = "<FHcomment><TX>made</TX></FHcomment>";
 
 fn floats(alloc: Global, items: &[f64]) -> Result<Vec<f64>, AllocError> {
     let mut out = Vec::new(alloc);
@@ -25,15 +20,7 @@ fn floats(alloc: Global, items: &[f64]) -> Result<Vec<f64>, AllocError> {
     Ok(out)
 }
 
-fn parts(alloc: Global, items: &[&[u8]]) -> Result<Vec<Vec<u8>>, AllocError> {
-    let mut out = Vec::new(alloc);
-    for item in items {
-        out.push((*item).to_owned(alloc)?)?;
-    }
-    Ok(out)
-}
-
-fn time(alloc: Global) -> Result<NewChannel, AllocError> {
+pub fn time(alloc: Global) -> Result<NewChannel, AllocError> {
     Ok(NewChannel {
         name: "t".to_owned(alloc)?,
         unit: Some("s".to_owned(alloc)?),
@@ -60,7 +47,7 @@ fn on_or_off(alloc: Global) -> Result<NewConversion, AllocError> {
     })
 }
 
-fn state(alloc: Global) -> Result<NewChannel, AllocError> {
+pub fn state(alloc: Global) -> Result<NewChannel, AllocError> {
     Ok(NewChannel {
         name: "state".to_owned(alloc)?,
         unit: None,
@@ -75,7 +62,7 @@ fn state(alloc: Global) -> Result<NewChannel, AllocError> {
     })
 }
 
-fn speed(alloc: Global) -> Result<NewChannel, AllocError> {
+pub fn speed(alloc: Global) -> Result<NewChannel, AllocError> {
     Ok(NewChannel {
         name: "speed".to_owned(alloc)?,
         unit: Some("rpm".to_owned(alloc)?),
@@ -97,72 +84,11 @@ fn speed(alloc: Global) -> Result<NewChannel, AllocError> {
     })
 }
 
-const QUARTERS: [u8; 18] = [
+pub const QUARTERS: [u8; 18] = [
     0, 0, 0, 0, 0, 0, 0xd0, 0x3f, 0, 0, 0, 0, 0, 0, 0, 0xe0, 0x3f, 1,
 ];
 
-const LATER: [u8; 9] = [0, 0, 0, 0, 0, 0, 0xe8, 0x3f, 1];
-
-fn groups(alloc: Global) -> Result<Vec<NewGroup>, AllocError> {
-    let mut first = Vec::new(alloc);
-    first.push(time(alloc)?)?;
-    first.push(state(alloc)?)?;
-    let mut second = Vec::new(alloc);
-    second.push(speed(alloc)?)?;
-    let mut out = Vec::new(alloc);
-    out.push(NewGroup {
-        name: "10 ms".to_owned(alloc)?,
-        channels: first,
-        record_bytes: 9,
-        parts: parts(alloc, &[&QUARTERS, &LATER])?,
-    })?;
-    out.push(NewGroup {
-        name: "event".to_owned(alloc)?,
-        channels: second,
-        record_bytes: 2,
-        parts: parts(alloc, &[&[0x12, 0x34]])?,
-    })?;
-    Ok(out)
-}
-
-#[test]
-fn a_small_file_has_the_bytes_of_the_tables(rt: HostRuntime) -> Result<(), Fail> {
-    let alloc = rt.alloc();
-    let bytes = match file_bytes(alloc, START, b"nerthogl", COMMENT, &groups(alloc)?) {
-        Ok(bytes) => bytes,
-        Err(_) => Vec::new(alloc),
-    };
-    assert!(rt; bytes.as_slice() == FILE);
-    Ok(())
-}
-
-/// The fault of the groups, of which the first is changed.
-fn fault(alloc: Global, record_bytes: u32, comment: &str) -> Result<Option<MdfFault>, AllocError> {
-    let mut all = groups(alloc)?;
-    for group in &mut all {
-        group.record_bytes = record_bytes;
-    }
-    match file_bytes(alloc, START, b"nerthogl", comment, &all) {
-        Ok(_) => Ok(None),
-        Err(fault) => Ok(Some(fault)),
-    }
-}
-
-#[test]
-fn what_is_no_file_is_named(rt: HostRuntime) -> Result<(), Fail> {
-    let alloc = rt.alloc();
-    let rows = [
-        (1, COMMENT, None),
-        (0, COMMENT, Some(MdfFault::NoRecordBytes)),
-        (4, COMMENT, Some(MdfFault::PartOfRecord)),
-        (1, "a\0b", Some(MdfFault::ZeroInText)),
-    ];
-    for (record_bytes, comment, wanted) in rows {
-        let found = fault(alloc, record_bytes, comment)?;
-        assert!(rt; found == wanted, "at {record_bytes}");
-    }
-    Ok(())
-}
+pub const LATER: [u8; 9] = [0, 0, 0, 0, 0, 0, 0xe8, 0x3f, 1];
 
 fn streamed(alloc: Global) -> Result<Vec<StreamedGroup>, AllocError> {
     let mut out = Vec::new(alloc);
@@ -218,11 +144,6 @@ fn streamed_file(alloc: Global, about: &About) -> Result<Vec<u8>, MdfFault> {
 fn records_that_stand_in_front_are_those_of_the_groups(rt: HostRuntime) -> Result<(), Fail> {
     let alloc = rt.alloc();
     let about = About {
-        state: FileState::Unfinished {
-            cycles: true,
-            last_data: true,
-            last_list: true,
-        },
         start: START,
         program: *b"nerthogl",
         comment: COMMENT.to_owned(alloc)?,
@@ -231,6 +152,6 @@ fn records_that_stand_in_front_are_those_of_the_groups(rt: HostRuntime) -> Resul
         Ok(bytes) => bytes,
         Err(_) => Vec::new(alloc),
     };
-    assert!(rt; bytes.as_slice() == STREAMED);
+    assert!(rt; bytes.as_slice() == FILE);
     Ok(())
 }

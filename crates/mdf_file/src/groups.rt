@@ -1,34 +1,39 @@
 //! Groups that a file is to have.
 ghost use Rattle.std.specs.Prelude.{◌≡◌, ◌≢◌, ◌+◌, ◌*◌, ◌%◌, ◌^◌, ◌<◌, List, ℕ, IfOk, Some, codes};
-ghost use Rattle.std.specs.Prelude.{◌++◌, OnOk, length, map};
+ghost use Rattle.std.specs.Prelude.{◌++◌, OnOk, length};
 ghost use Rattle.mdf_blocks.specs.Blocks.{IsBlockAt};
 ghost use Rattle.mdf_blocks.specs.Ranges.{FitsGroup};
 ghost use Rattle.mdf_blocks.specs.Tables.{cg_body, cg_links, dg_body, dg_links};
-ghost use Rattle.mdf_blocks.specs.Told.{IsGroupAt, TellsChannels, TellsGroups, TellsRecords};
-ghost use Rattle.mdf_blocks.specs.Told.{TellsText, ToldChannel};
-ghost use Rattle.mdf_file.specs.Adding.{Adds};
-ghost use Rattle.mdf_file.specs.Describing.{told_group};
+ghost use Rattle.mdf_blocks.specs.Told.{AreListed, IsGroupAt, TellsChannels, TellsGroups};
+ghost use Rattle.mdf_blocks.specs.Told.{TellsRecords, TellsText, ToldChannel, ToldGroup};
+ghost use Rattle.mdf_file.specs.Adding.{Adds, AreSmall};
+ghost use Rattle.mdf_file.specs.Ending.{AreOf, HoldRecords, told_group};
 
 use crate::channels::add_channels;
 use crate::mdf_fault::MdfFault;
-use crate::new_group::NewGroup;
 use crate::next_place::next_place;
-use crate::records::{add_list, add_parts};
+use crate::records::add_list;
+use crate::streamed_group::StreamedGroup;
 use crate::texts::add_text;
-use mdf_blocks::{ChannelGroup, DataGroup, push_channel_group, push_data_group};
+use mdf_blocks::{ChannelGroup, DataGroup, ListedData, push_channel_group, push_data_group};
 use std::alloc::Global;
 
-/// Adds the groups of a file, and gives the place of the first, or 0.
+/// Adds groups whose records stand before them, and gives the place of the first, or 0.
 pub fn add_groups(
     alloc: Global,
     out: &mut Vec<u8>,
     base: u64,
-    groups: &[NewGroup],
+    groups: &[StreamedGroup],
 ) -> Result<u64, MdfFault>
     requires some { 0 < base }
     requires aligned { (base + length out.old.items) % 8 ≡ 0 }
-    ensures { IfOk result (λ link. Adds base out.old.items out.new.items
-        (λ bytes. TellsGroups bytes link (map told_group groups.now))) }
+    ensures aligned { OnOk result ((base + length out.new.items) % 8 ≡ 0) }
+    ensures told { IfOk result (λ link. (place : ℕ) (before : List ℕ) (told : List ToldGroup)
+        → place + length before ≡ base → AreOf groups.now told
+        → Adds place (before ++ out.old.items) (before ++ out.old.items)
+        (λ bytes. HoldRecords bytes groups.now told)
+        → Adds place (before ++ out.old.items) (before ++ out.new.items)
+        (λ bytes. TellsGroups bytes link told)) }
 {
     let mut next = 0;
     for behind in 0..groups.len() {
@@ -38,24 +43,29 @@ pub fn add_groups(
     Ok(next)
 }
 
-/// Adds a group, and gives its place.
+/// Adds a group whose records stand before it, and gives its place.
 fn add_group(
     alloc: Global,
     out: &mut Vec<u8>,
     base: u64,
-    group: &NewGroup,
+    group: &StreamedGroup,
     next: u64,
 ) -> Result<u64, MdfFault>
     requires some { 0 < base }
     requires aligned { (base + length out.old.items) % 8 ≡ 0 }
-    ensures { IfOk result (λ link. Adds base out.old.items out.new.items
-        (λ bytes. (link ≢ 0) × IsGroupAt bytes link (told_group group.now) next)) }
+    ensures aligned { OnOk result ((base + length out.new.items) % 8 ≡ 0) }
+    ensures told { IfOk result (λ link. (place : ℕ) (before records : List ℕ)
+        → place + length before ≡ base → length records ≡ group.now.len
+        → Adds place (before ++ out.old.items) (before ++ out.old.items)
+        (λ bytes. AreListed bytes 0 group.now.blocks.items records)
+        → Adds place (before ++ out.old.items) (before ++ out.new.items)
+        (λ bytes. (link ≢ 0) × IsGroupAt bytes link (told_group group.now records) next)) }
 {
+    read_blocks(&group.blocks);
+    let records = add_list(out, base, &group.blocks)?;
     let name = add_text(out, base, &group.name)?;
     let first_channel = add_channels(alloc, out, base, &group.channels)?;
-    let (blocks, len) = add_parts(alloc, out, base, &group.parts)?;
-    let records = add_list(out, base, &blocks)?;
-    let cycles = cycles_of(len, group.record_bytes)?;
+    let cycles = cycles_of(group.len, group.record_bytes)?;
     let inner = ChannelGroup {
         first_channel,
         acquisition_name: name,
@@ -64,6 +74,22 @@ fn add_group(
         record_bytes: group.record_bytes,
     };
     add_blocks(out, base, &inner, records, next)
+}
+
+/// What the numbers of each list fit.
+fn read_blocks(blocks: &[ListedData])
+    ensures { AreSmall blocks.now }
+{
+    for block in blocks {
+        read_block(*block);
+    }
+}
+
+/// What the numbers of each entry of a list fit.
+fn read_block(block: ListedData)
+    ensures { (block.place < 2 ^ 64) × (block.offset < 2 ^ 64) }
+{
+    let _ = [block.place, block.offset];
 }
 
 /// How many records so many bytes are.

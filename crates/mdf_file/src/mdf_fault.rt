@@ -1,5 +1,6 @@
 //! Why a file isn't written.
 use std::alloc::{AllocError, AllocFailed};
+use std::io::{self, ErrorKind};
 use thiserror::Error;
 
 /// Why a file isn't written.
@@ -17,6 +18,10 @@ pub enum MdfFault {
     PartOfRecord,
     #[error("the file is too long")]
     TooLong,
+    #[error("there is no such group")]
+    NoGroup,
+    #[error("the file can't be written")]
+    Unwritten,
 }
 
 impl From<AllocError> for MdfFault {
@@ -28,5 +33,14 @@ impl From<AllocError> for MdfFault {
 impl<T: Drop> From<AllocFailed<T>> for MdfFault {
     fn from(_e: AllocFailed<T>) -> MdfFault {
         MdfFault::Memory
+    }
+}
+
+impl From<io::Error> for MdfFault {
+    fn from(e: io::Error) -> MdfFault {
+        match e.kind() {
+            ErrorKind::OutOfMemory => MdfFault::Memory,
+            _ => MdfFault::Unwritten,
+        }
     }
 }

@@ -1,6 +1,7 @@
 //! A channel that a file is to have.
 use crate::new_conversion::NewConversion;
-use mdf_blocks::{ChannelKind, ValueFormat, ValueLimits};
+use mdf_blocks::{ChannelKind, ValueFormat};
+use measured_values::ValueLimits;
 
 /// One value of each record (ASAM MDF 4.1, CN). No text has a byte of 0.
 #[derive(Debug, Drop)]

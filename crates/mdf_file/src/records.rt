@@ -1,8 +1,7 @@
 //! The records of a group.
-ghost use Rattle.std.specs.Prelude.{◌≡◌, ◌+◌, ◌%◌, ◌<◌, List, ℕ, IfOk, codes, length, map};
-ghost use Rattle.std.specs.Prelude.{[], ◌++◌, OnOk, vec_items};
-ghost use Rattle.std.specs.List.{concat};
-ghost use Rattle.mdf_blocks.specs.Blocks.{IsBlockAt, fill_len, filled};
+ghost use Rattle.std.specs.Prelude.{◌≡◌, ◌+◌, ◌%◌, ◌<◌, List, ℕ, IfOk, length};
+ghost use Rattle.std.specs.Prelude.{◌++◌, OnOk};
+ghost use Rattle.mdf_blocks.specs.Blocks.{fill_len, filled};
 ghost use Rattle.mdf_blocks.specs.Numbers.{zeros};
 ghost use Rattle.mdf_blocks.specs.Records.{dt_block};
 ghost use Rattle.mdf_blocks.specs.Told.{AreListed, TellsRecords};
@@ -11,19 +10,7 @@ ghost use Rattle.mdf_file.specs.Adding.{Adds, AreSmall};
 use crate::mdf_fault::MdfFault;
 use crate::next_place::next_place;
 use mdf_blocks::{ListedData, data_head, fill_len, push_data_list};
-use std::alloc::{AllocError, Global};
-
-/// Adds a block of records, and gives its place.
-pub fn add_data(out: &mut Vec<u8>, base: u64, records: &[u8]) -> Result<u64, MdfFault>
-    requires some { 0 < base }
-    requires aligned { (base + length out.old.items) % 8 ≡ 0 }
-    ensures { IfOk result (λ link. Adds base out.old.items out.new.items
-        (λ bytes. IsBlockAt bytes link (codes "##DT") [] records.now)) }
-{
-    let place = next_place(base, out)?;
-    push_data(out, records)?;
-    Ok(place)
-}
+use std::alloc::AllocError;
 
 /// Appends a block of records and its fill.
 pub fn push_data(out: &mut Vec<u8>, records: &[u8]) -> Result<(), AllocError>
@@ -41,33 +28,6 @@ fn push_fill(out: &mut Vec<u8>, len: u64) -> Result<(), AllocError>
 {
     let all = [0; 8];
     out.extend_from_slice(&all[..fill_len(len)])
-}
-
-/// Adds parts of records, a block of each, and gives these, each with how many bytes are before it.
-pub fn add_parts(
-    alloc: Global,
-    out: &mut Vec<u8>,
-    base: u64,
-    parts: &[Vec<u8>],
-) -> Result<(Vec<ListedData>, u64), MdfFault>
-    requires some { 0 < base }
-    requires aligned { (base + length out.old.items) % 8 ≡ 0 }
-    ensures { IfOk result (λ it. Adds base out.old.items out.new.items
-        (λ bytes. AreListed bytes 0 it.0.items (concat (map vec_items parts.now)))
-        × (it.1 ≡ length (concat (map vec_items parts.now)))
-        × AreSmall it.0.items) }
-{
-    let mut blocks = Vec::new(alloc);
-    let mut before = 0;
-    for part in parts {
-        let place = add_data(out, base, part)?;
-        blocks.push(ListedData {
-            place,
-            offset: before,
-        })?;
-        before = next_place(before, part)?;
-    }
-    Ok((blocks, before))
 }
 
 /// Adds a list of blocks of records, and gives its place, or 0 if there are none.

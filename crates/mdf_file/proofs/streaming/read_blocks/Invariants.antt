@@ -1,7 +1,0 @@
-use Rattle.std.proofs.Common.{take}
-use Rattle.mdf_file.specs.Adding.{AreSmall}
-use Rattle.mdf_file.proofs.streaming.read_blocks.Given as goal
-
--- the numbers so far fit
-abbrev pub invariant-loop-block : goal.invariant-loop-block
-invariant-loop-block l = AreSmall (take l.block-index l.blocks)

@@ -1,0 +1,155 @@
+//! Files that are written record by record.
+ghost use Rattle.std.specs.Prelude.{◌≡◌, [], IfSome, None};
+
+use crate::file_tests::{COMMENT, LATER, QUARTERS, START, speed, state, time};
+use crate::limits::Limits;
+use crate::worked_file::FILE;
+use crate::{About, MdfFault, MdfOut, MdfWriter, MemoryOut, NewChannel, SeekOut};
+use std::alloc::{AllocError, Global};
+use std::io::{self, Cursor};
+use std::process::Abort;
+use std::test::Fail;
+
+const SMALL: Limits = Limits {
+    group: 18,
+    all: 100,
+};
+
+const TOGETHER: Limits = Limits {
+    group: 100,
+    all: 20,
+};
+
+fn about(alloc: Global) -> Result<About, AllocError> {
+    Ok(About {
+        start: START,
+        program: *b"nerthogl",
+        comment: COMMENT.to_owned(alloc)?,
+    })
+}
+
+fn two(alloc: Global) -> Result<Vec<NewChannel>, AllocError> {
+    let mut out = Vec::new(alloc);
+    out.push(time(alloc)?)?;
+    out.push(state(alloc)?)?;
+    Ok(out)
+}
+
+fn one(alloc: Global) -> Result<Vec<NewChannel>, AllocError> {
+    let mut out = Vec::new(alloc);
+    out.push(speed(alloc)?)?;
+    Ok(out)
+}
+
+/// A file of two groups whose records come in turn, and of one without records.
+fn written<O: MdfOut + Drop>(alloc: Global, out: O, limits: Limits) -> Result<O, MdfFault>
+    requires { IfSome (O.known out) (λ bytes. bytes ≡ []) }
+{
+    let mut writer = MdfWriter::with_limits(alloc, about(alloc)?, out, limits)?;
+    let first = writer.group("10 ms".to_owned(alloc)?, two(alloc)?, 9)?;
+    writer.group("never".to_owned(alloc)?, one(alloc)?, 2)?;
+    let second = writer.group("event".to_owned(alloc)?, one(alloc)?, 2)?;
+    writer.record(first, &QUARTERS[..9])?;
+    writer.record(first, &QUARTERS[9..])?;
+    writer.record(second, &[0x12, 0x34])?;
+    writer.record(first, &LATER)?;
+    writer.finish()
+}
+
+#[test]
+fn a_written_file_has_the_bytes_of_the_tables(rt: HostRuntime) -> Result<(), Fail> {
+    let alloc = rt.alloc();
+    let Ok(out) = written(alloc, MemoryOut::new(alloc), SMALL) else {
+        return Err(Fail::from("no file"));
+    };
+    assert!(rt; out.bytes() == FILE);
+    let Ok(out) = written(alloc, SeekOut::new(Cursor::new(Vec::new(alloc))), SMALL) else {
+        return Err(Fail::from("no file"));
+    };
+    assert!(rt; out.into_inner().into_inner().as_slice() == FILE);
+    Ok(())
+}
+
+#[test]
+fn all_that_waits_is_written_at_the_limit_of_all(rt: HostRuntime) -> Result<(), Fail> {
+    let alloc = rt.alloc();
+    let Ok(out) = written(alloc, MemoryOut::new(alloc), TOGETHER) else {
+        return Err(Fail::from("no file"));
+    };
+    let bytes = out.bytes();
+    for (place, len) in [(168, 42), (216, 26), (248, 33)] {
+        assert!(rt;
+            bytes.get(place..place + 4) == Some(&b"##DT"[..]),
+            "at {place}"
+        );
+        assert!(rt; bytes.get(place + 8) == Some(&len), "at {place}");
+    }
+    Ok(())
+}
+
+#[test]
+fn what_is_refused_is_named(rt: HostRuntime) -> Result<(), Fail> {
+    let alloc = rt.alloc();
+    let Ok(mut writer) = MdfWriter::new(alloc, about(alloc)?, MemoryOut::new(alloc)) else {
+        return Err(Fail::from("no file"));
+    };
+    let none = writer.group("10 ms".to_owned(alloc)?, two(alloc)?, 0);
+    assert!(rt; none == Err(MdfFault::NoRecordBytes));
+    assert!(rt; writer.group("10 ms".to_owned(alloc)?, two(alloc)?, 9) == Ok(0));
+    assert!(rt; writer.record(1, &LATER) == Err(MdfFault::NoGroup));
+    assert!(rt; writer.record(0, &LATER[1..]) == Err(MdfFault::PartOfRecord));
+    assert!(rt; writer.record(0, &LATER) == Ok(()));
+    Ok(())
+}
+
+/// An out whose appends fail once so many were made.
+#[derive(Drop)]
+struct FailingOut<'a> {
+    bytes: &'a mut Vec<u8>,
+    left: usize,
+}
+
+impl MdfOut for FailingOut<'_> {
+    ghost known = { λ _. None };
+
+    fn append(&mut self, bytes: &[u8]) -> io::Result<()> {
+        if self.left == 0 {
+            return Err(io::Error::from(io::ErrorKind::StorageFull));
+        }
+        self.left -= 1;
+        self.bytes.extend_from_slice(bytes)?;
+        Ok(())
+    }
+
+    fn write_front(&mut self, _front: &[u8]) -> io::Result<()> {
+        Err(io::Error::from(io::ErrorKind::StorageFull))
+    }
+}
+
+#[test]
+fn a_writer_that_failed_takes_no_more(rt: HostRuntime) -> Result<(), Fail> {
+    let alloc = rt.alloc();
+    let mut bytes = Vec::new(alloc);
+    let out = FailingOut {
+        bytes: &mut bytes,
+        left: 2,
+    };
+    let Ok(mut writer) = MdfWriter::with_limits(alloc, about(alloc)?, out, SMALL) else {
+        return Err(Fail::from("no file"));
+    };
+    assert!(rt; writer.group("10 ms".to_owned(alloc)?, two(alloc)?, 9) == Ok(0));
+    let wanted = [
+        Ok(()),
+        Ok(()),
+        Err(MdfFault::Unwritten),
+        Err(MdfFault::Unwritten),
+    ];
+    for answer in wanted {
+        assert!(rt; writer.record(0, &LATER) == answer);
+    }
+    let later = writer.group("event".to_owned(alloc)?, one(alloc)?, 0);
+    assert!(rt; later == Err(MdfFault::Unwritten));
+    assert!(rt; matches!(writer.finish(), Err(MdfFault::Unwritten)));
+    assert!(rt; bytes.len() == 192 && bytes.starts_with(b"UnFinMF "));
+    Ok(())
+}
