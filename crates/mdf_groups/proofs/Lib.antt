@@ -1,0 +1,6 @@
+pub mod NameLemmas
+pub mod PlaceLemmas
+pub mod RecordLemmas
+pub mod IntegerLemmas
+pub mod LawLemmas
+pub mod ChannelLemmas
