@@ -16,7 +16,7 @@ const LONG_WRAP: u128 = 200_000_000_000;
 const START: u64 = 9_223_372_036_854_775_808;
 
 /// A tick of the capture's clock.
-const NANOSECOND: Tick = Tick {
+pub const NANOSECOND: Tick = Tick {
     mantissa: 1,
     exponent: -9,
 };
@@ -165,6 +165,11 @@ impl CaptureClock {
             picoseconds: passed_between(last.captured?, self.current?),
         })
     }
+}
+
+/// Whether the time of a sample is that of its timestamp.
+pub fn is_stamped(sample: &ListSamples) -> bool {
+    sample.ticks().is_some() && form_of(sample).is_some()
 }
 
 /// How the timestamps of a sample's list count, if the slave tells that.

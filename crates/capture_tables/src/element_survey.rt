@@ -10,10 +10,11 @@ use std::alloc::{AllocError, Global};
 use value_tables::Holder;
 
 /// Gathers the entries of each list of a slave, those of a later set-up of a list behind those
-/// before.
+/// before; and when the first packet of the slave was captured.
 #[derive(Drop)]
 pub struct ElementSurvey {
     entries: Vec<Element>,
+    first: Option<i64>,
 }
 
 impl ElementSurvey {
@@ -21,7 +22,14 @@ impl ElementSurvey {
     pub fn new(alloc: Global) -> ElementSurvey {
         ElementSurvey {
             entries: Vec::new(alloc),
+            first: None,
         }
+    }
+
+    /// When the first packet was captured of which the capture tells that, in nanoseconds since
+    /// 1970-01-01, UTC; `None` if that was before.
+    pub fn first(&self) -> Option<u64> {
+        u64::try_from(self.first?).ok()
     }
 }
 
@@ -48,7 +56,9 @@ impl SampleSink for ElementSurvey {
 }
 
 impl CaptureSink for ElementSurvey {
-    fn set_time(&mut self, _nanoseconds: Option<i64>) {}
+    fn set_time(&mut self, nanoseconds: Option<i64>) {
+        self.first = self.first.or(nanoseconds);
+    }
 
     fn frame(&mut self, _is_of_master: bool, _counter: u16, _packet: &[u8]) {}
 }

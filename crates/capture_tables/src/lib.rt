@@ -3,11 +3,14 @@
 
 mod capture_clock;
 mod capture_column;
+mod capture_file;
 mod capture_rows;
 mod capture_sheet;
 mod clocks;
 mod element_rows;
 mod element_survey;
+mod file_clock;
+mod file_lists;
 mod list_table;
 mod passed;
 mod row_text;
@@ -17,6 +20,7 @@ mod unwound;
 mod value_picture;
 mod values_at;
 
+pub use capture_file::CaptureFile;
 pub use capture_rows::CaptureRows;
 pub use capture_sheet::CaptureSheet;
 pub use clocks::Clocks;

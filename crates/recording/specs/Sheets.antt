@@ -21,3 +21,8 @@ pub record TallySheetState : Type 0 where
   pub plans : List ListPlan
   pub start : Option (List ℕ)
   pub samples : List (ℕ × Recorded)
+
+-- the lists of a measurement file, and the samples that were handed over
+pub record FileSheetState : Type 0 where
+  pub plans : List ListPlan
+  pub samples : List (ℕ × Recorded)

@@ -9,6 +9,7 @@ use Rattle.explain.specs.declared.run_text_fault.RunTextFault.TheVariants.{Memor
 use Rattle.xcpread.specs.declared.program_fault.ProgramFault.{ProgramFault}
 use Rattle.xcpread.specs.declared.program_fault.ProgramFault.TheVariants.{Capture, Recording, Text}
 use Rattle.xcpread.specs.declared.program_fault.ProgramFault.TheVariants.{LongInput, Unprinted}
+use Rattle.xcpread.specs.declared.program_fault.ProgramFault.TheVariants.{Unwritten}
 
 -- lack of memory before the recording is read
 abbrev pub want_of_memory : ProgramFault
@@ -26,6 +27,7 @@ status_of_fault (Capture unread.NoCapture) = 2
 status_of_fault (Capture fault) = 1
 status_of_fault LongInput = 1
 status_of_fault Unprinted = 1
+status_of_fault Unwritten = 1
 status_of_fault _ = 2
 
 -- the recording isn't shown, for a fault of which this is so

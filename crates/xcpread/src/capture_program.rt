@@ -2,6 +2,7 @@
 ghost use Rattle.std.specs.Prelude.{◌≡◌, ◌≤◌, ◌↔◌, ⊤, IfOk, IsTrue, MatchOption};
 
 use crate::capture_bytes::CaptureBytes;
+use crate::capture_output::{CaptureOutput, write_columns};
 use crate::capture_views::{show_columns, show_lists, show_story};
 use crate::command_line::CaptureOptions;
 use crate::err_messages::ErrMessages;
@@ -108,7 +109,14 @@ pub fn show_capture<R: Files, I: Read + Drop, W: Write + Drop, E: Write + Drop>(
         Some(description) => {
             let description = with_elements(alloc, description, &slave.sink)?;
             let columns = columns_of(alloc, &description, &slave.sink, options, messages)?;
-            show_columns(rt, alloc, source, options, columns, out, messages)?;
+            match options.mf4 {
+                Some(path) => {
+                    let start = slave.sink.first();
+                    let output = CaptureOutput { path, start };
+                    write_columns(rt, alloc, source, options, output, columns, messages)?;
+                }
+                None => show_columns(rt, alloc, source, options, columns, out, messages)?,
+            }
         }
         None => show_lists(rt, alloc, source, options, out, messages)?,
     }

@@ -97,7 +97,7 @@ fn fault_of(error: &io::Error) -> ProgramFault {
 }
 
 /// The fault that broke a capture off, if one did.
-fn end_by(broken: Option<CaptureReadFault>) -> Result<(), ProgramFault> {
+pub fn end_by(broken: Option<CaptureReadFault>) -> Result<(), ProgramFault> {
     match broken {
         Some(fault) => Err(ProgramFault::Capture(fault)),
         None => Ok(()),

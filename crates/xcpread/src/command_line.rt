@@ -42,6 +42,8 @@ pub struct Options<'a> {
     pub progress: bool,
     /// The A2L file that says which values are shown, if there is one.
     pub a2l: Option<&'a str>,
+    /// The measurement file that they are written to, in place of being shown.
+    pub mf4: Option<&'a str>,
 }
 
 /// Which capture is read, and how it is shown.
@@ -53,6 +55,8 @@ pub struct CaptureOptions<'a> {
     pub mode: Mode,
     /// The A2L file that says which values are shown, and how packets look, if there is one.
     pub a2l: Option<&'a str>,
+    /// The measurement file that values are written to, in place of being shown.
+    pub mf4: Option<&'a str>,
     /// Whether elements are shown, and not values.
     pub long: bool,
     /// Whether the session is told in words, and no samples are shown.
@@ -110,7 +114,7 @@ struct Choice<'a> {
 }
 
 /// The options: the ways to show samples, what is shown by name, and whether progress is told.
-const CHOICES: [Choice; 13] = [
+const CHOICES: [Choice; 14] = [
     Choice {
         name: "summary",
         value: None,
@@ -134,6 +138,12 @@ const CHOICES: [Choice; 13] = [
         value: None,
         without: &["summary", "csv", "svg"],
         help: "Print replies and frames in words, then a table; of a capture the session in words",
+    },
+    Choice {
+        name: "mf4",
+        value: Some("FILE"),
+        without: &["summary", "csv", "svg", "explain"],
+        help: "With --a2l: write the measurements to a file, after ASAM MDF 4.1",
     },
     Choice {
         name: "a2l",
@@ -174,7 +184,7 @@ const CHOICES: [Choice; 13] = [
     Choice {
         name: "clock",
         value: Some("CLOCK"),
-        without: &[],
+        without: &["mf4"],
         help: "Of a capture, with --csv: capture adds a column with the times of the capture",
     },
     Choice {
@@ -277,6 +287,7 @@ fn capture_of<'a>(
         path,
         mode,
         a2l: matches.get_str("a2l"),
+        mf4: matches.get_str("mf4"),
         long: matches.get_flag("long"),
         explain: matches.get_flag("explain"),
         only: matches.get_str("only"),
@@ -373,6 +384,7 @@ fn recording_of<'a>(
         frames,
         progress: matches.get_flag("progress"),
         a2l,
+        mf4: matches.get_str("mf4"),
     }))
 }
 
@@ -382,7 +394,7 @@ fn a2l_of<'a>(matches: &ArgMatches<'a>, why: &mut Why) -> Result<Option<&'a str>
 {
     let a2l = matches.get_str("a2l");
     if a2l.is_none() && is_of_values(matches) {
-        why.tell_words("--only and --tick want --a2l\n");
+        why.tell_words("--only, --tick and --mf4 want --a2l\n");
         return Err(ProgramFault::CommandLine);
     }
     if !matches.get_flag("long") {
@@ -403,7 +415,8 @@ fn is_of_capture(matches: &ArgMatches<'_>) -> bool {
 
 /// Whether an option stands there that speaks of values.
 fn is_of_values(matches: &ArgMatches<'_>) -> bool {
-    matches.get_str("only").is_some() || matches.get_str("tick").is_some()
+    let mut names = ["only", "tick", "mf4"].iter();
+    names.any(|name| matches.get_str(name).is_some())
 }
 
 /// How long a tick is, if that is said.
@@ -422,9 +435,10 @@ fn tick_in(matches: &ArgMatches<'_>, why: &mut Why) -> Result<Option<Tick>, Prog
     }
 }
 
-/// How the samples are shown; a table where no mode is asked for.
+/// How the samples are shown; a table where no mode is asked for. What goes to a measurement file is
+/// what CSV has.
 fn mode_of(matches: &ArgMatches<'_>) -> Mode {
-    if matches.get_flag("csv") {
+    if matches.get_flag("csv") || matches.get_str("mf4").is_some() {
         return Mode::Csv;
     }
     if matches.get_flag("svg") {

@@ -51,6 +51,17 @@ impl<E: Write + Drop> ErrMessages<E> {
         }
     }
 
+    /// Tells how many of all measurements are written without their conversion, in a line of its
+    /// own, if there are any.
+    pub fn tell_raw(&mut self, raw: usize, all: usize) {
+        if raw > 0 {
+            let _ = writeln!(
+                self.err,
+                "xcpread: raw in the mf4: {raw} of {all} measurements"
+            );
+        }
+    }
+
     /// Tells of a slave, in a line of its own.
     pub fn tell_slave(&mut self, address: IpAddr) {
         let _ = writeln!(self.err, "xcpread: slave {address}");

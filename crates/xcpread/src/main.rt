@@ -3,14 +3,18 @@
 #![tactic(auto)]
 
 mod capture_bytes;
+mod capture_output;
 mod capture_program;
 mod capture_views;
 mod command_line;
 mod err_messages;
 mod held_capture;
+mod mdf_about;
 mod no_text;
 mod one_sink;
+mod output_file;
 mod program_fault;
+mod run_output;
 mod told_form;
 mod whole_program;
 mod why_unread;

@@ -38,6 +38,18 @@ pub enum ProgramFault {
     /// The output can't be printed.
     #[error("xcpread: cannot print")]
     Unprinted,
+    /// The file that is to be written is read too.
+    #[error("xcpread: the output is one of the inputs")]
+    OutputIsInput,
+    /// What is to be written is a folder, a pipe or a device.
+    #[error("xcpread: the output is no file")]
+    OutputNoFile,
+    /// The file that is to be written can't be made.
+    #[error("xcpread: cannot make mf4")]
+    UnmadeOutput,
+    /// The file isn't written, or not to its end.
+    #[error("xcpread: cannot write mf4")]
+    Unwritten,
 }
 
 impl ProgramFault {
@@ -61,6 +73,7 @@ impl ProgramFault {
             ProgramFault::Capture(_) => 1,
             ProgramFault::LongInput => 1,
             ProgramFault::Unprinted => 1,
+            ProgramFault::Unwritten => 1,
             _ => 2,
         }
     }

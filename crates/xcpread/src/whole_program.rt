@@ -14,6 +14,7 @@ use crate::command_line::{CommandLine, Options, read_command_line};
 use crate::err_messages::ErrMessages;
 use crate::no_text::no_text;
 use crate::program_fault::ProgramFault;
+use crate::run_output::write_recorded;
 use crate::why_unread::tell_unread;
 use a2l::{A2lFault, Description};
 use clap::Error;
@@ -74,7 +75,10 @@ fn answer<R: Files, I: Read + Drop, W: Write + Drop, E: Write + Drop>(
             let mut out = out;
             Ok(print_version(&mut out, "xcpread"))
         }
-        CommandLine::Recording(options) => show(rt, alloc, options, out, messages),
+        CommandLine::Recording(options) => match options.mf4 {
+            Some(path) => write(rt, alloc, options, path, messages),
+            None => show(rt, alloc, options, out, messages),
+        },
         CommandLine::Capture(options) => show_capture(rt, alloc, options, input, out, messages),
     }
 }
@@ -112,6 +116,59 @@ fn show<R: Files, W: Write + Drop, E: Write + Drop>(
         out,
         messages,
     )
+}
+
+/// Reads the recording that the arguments name, and writes the values of its samples to a file.
+fn write<R: Files, E: Write + Drop>(
+    rt: &R,
+    alloc: Global,
+    options: Options<'_>,
+    path: &str,
+    messages: &mut ErrMessages<E>,
+) -> Result<u8, ProgramFault>
+    ensures { IfOk result (λ status. status ≤ 1) }
+{
+    let run = run_of(rt, alloc, options.run, &mut messages.why)?;
+    let description = description_of(rt, alloc, options.a2l, messages)?;
+    let description = with_arrays(alloc, description, &run)?;
+    write_run(
+        rt,
+        alloc,
+        options,
+        path,
+        &run,
+        description.as_ref(),
+        messages,
+    )
+}
+
+/// Reads the recording of a run, and writes the values of its samples to a file.
+fn write_run<R: Files, E: Write + Drop>(
+    rt: &R,
+    alloc: Global,
+    options: Options<'_>,
+    path: &str,
+    run: &Run,
+    description: Option<&Description>,
+    messages: &mut ErrMessages<E>,
+) -> Result<u8, ProgramFault>
+    ensures { IfOk result (λ status. status ≤ 1) }
+{
+    let Ok((store, writer)) = set_up(alloc, run, VecOut::new(alloc)) else {
+        return Err(ProgramFault::MEMORY);
+    };
+    let replies = writer.into_out();
+    if options.progress {
+        messages.want_progress();
+    }
+    let recorded = RunRecording {
+        name: options.frames,
+        run,
+        replies: replies.bytes(),
+        store: &store,
+        description,
+    };
+    write_recorded(rt, alloc, options, path, &recorded, messages)
 }
 
 /// Reads the recording of a run, and prints its samples.
