@@ -56,6 +56,7 @@ idle-behind : (d : Profile) (past : Past) (number : ℕ) (b : SlaveState) (code 
 idle-behind d past number b code opening acts are is =
     let same : opened (opening ++ acts) ≡ opened opening = omega (arith, sum_by-append (λ a. if is_opening a then 1 else 0) opening acts, none-opened acts are) in
     record {
+      all_came = λ none. is.all_came (sym same ∙ none);
       unopened = λ none. is.unopened (sym same ∙ none);
       ended = λ some two. is.ended (λ none. some (same ∙ none)) two;
     }

@@ -16,7 +16,9 @@ use Rattle.channel_ring.specs.Ends.{RingName}
 use Rattle.slave.specs.Closing.{AreEndsOf}
 use Rattle.slave_channels.specs.Calls.{GivesBackNewer, GivesBackOlder, IsBeside, IsRingAt, rings_of}
 use Rattle.slave_channels.specs.Each.{IsOnlyAt}
-use Rattle.slave.specs.Inner.{Busy, Collects, Gathers, GathersFirst, Grows, Rests, TakesAll, TakesOne, kept_of}
+use Rattle.slave.specs.Finishing.{GaveAll, IsOfNewest}
+use Rattle.slave.specs.Hearing.{NoneComes}
+use Rattle.slave.specs.Inner.{Busy, CameBelow, AllCame, Collects, Gathers, GathersFirst, Grows, TakesAll, TakesOne, kept_of}
 use Rattle.slave.specs.Returns.{ends_in}
 use Rattle.slave_outbox.specs.Deeds.{Deed}
 use Rattle.slave.specs.Standing.{ChannelHas, SlaveState, number_of}
@@ -72,7 +74,7 @@ looked-some None (Some y) looks = elim looks [ ]
 looked-some (Some x) None looks = elim looks [ ]
 
 -- nothing is back of either, so nothing is to come, or nothing is out
-rests-none : (x u y : LinkState FrameSend) → NoneIsBack x u false x.older u.older → NoneIsBack u y (is_out u.older) u.newer y.newer → y.older ≡ u.older → Rests y
+rests-none : (x u y : LinkState FrameSend) → NoneIsBack x u false x.older u.older → NoneIsBack u y (is_out u.older) u.newer y.newer → y.older ≡ u.older → NoneComes y
 rests-none x u y one two same =
     elim two.way [
       | inl s ↦
@@ -98,7 +100,7 @@ none-out : (o : Option (AwayState FrameSend)) → one_if (is_some o) ≡ 0 → i
 none-out None is = refl
 none-out (Some a) is = absurd (omega (arith, is))
 
-rests-kept : (l : LinkState FrameSend) → kept_of l ≡ 0 → Rests l
+rests-kept : (l : LinkState FrameSend) → kept_of l ≡ 0 → NoneComes l
 rests-kept l none =
     inr (none-out l.older (omega (arith, none)), none-out l.newer (omega (arith, none)))
 
@@ -148,6 +150,7 @@ one-beyond a c beyond = record {
   grows = λ x y at now. absurd (omega (arith, slice_get_within a.channels c x at, beyond));
   yes = λ is. absurd (false≢true is);
   no = λ is y now. absurd (omega (arith, slice_get_within a.channels c y now, beyond));
+  gave_all = λ is y now. absurd (omega (arith, slice_get_within a.channels c y now, beyond));
 }
 
 -- the older came back
@@ -157,15 +160,42 @@ one-older a b c f only = record {
   grows = λ x y at now. older-grows (Some f) x y (only.here x y at now);
   yes = λ is x y at now. older-kept f x y (only.here x y at now);
   no = λ is. absurd (true≢false is);
+  gave_all = λ is. absurd (true≢false is);
+}
+
+-- nothing of the older came
+none-of-older : (x y : LinkState FrameSend) → NoneIsBack x y false x.older y.older → is_out y.older ≡ true → y.coming ≡ []
+none-of-older x y none on =
+    elim none.way [
+      | inl s ↦ s.nothing.coming ∙ s.no_more refl on
+      | inr w ↦ absurd (true≢false (sym on ∙ w.1.not_out))
+    ]
+
+-- where nothing comes, all was given
+gave-rest : (s : SlaveState) (ch : ChannelState) → NoneComes ch.link → GaveAll s ch
+gave-rest s ch rests = record {
+  older = λ on. elim rests [
+    | inl empty ↦ empty
+    | inr w ↦ absurd (true≢false (sym on ∙ w.0))
+  ];
+  newer = inl rests;
 }
 
 -- it didn't, and the newer isn't over
-pub one-busy : (a b : SlaveState) (c : ℕ) → IsOnlyAt (GivesBackOlder None) c a.channels b.channels → b.session ≡ a.session → Busy b.session → TakesOne c false a b
-one-busy a b c only same busy = record {
+pub one-busy : (a b : SlaveState) (c : ℕ) → IsOnlyAt (GivesBackOlder None) c a.channels b.channels → b.session ≡ a.session → Busy b.session
+    → ((ch : ChannelState) → slice_get b.channels c ≡ Some ch → IsOfNewest b ch) → TakesOne c false a b
+one-busy a b c only same busy newest = record {
   others = only.others;
   grows = λ x y at now. older-grows None x y (only.here x y at now);
   yes = λ is. absurd (false≢true is);
   no = λ is y now. inl (subst Busy same busy);
+  gave_all = λ is y now.
+      let x = get_or a.channels c y in
+      let at = was-there a.channels b.channels c y only.as_many now in
+      record {
+        older = none-of-older x.link y.link ((only.here x y at now).none refl).1;
+        newer = inr (busy, newest y now);
+      };
 }
 
 -- or the newer was looked for
@@ -187,12 +217,18 @@ one-newer a m b c answer one two = record {
       let x = get_or a.channels c u in
       let at = was-there a.channels m.channels c u one.as_many was in
       inr (rest answer is x u y (one.here x u at was) (two.here u y was now));
+  gave_all = λ is y now.
+      let u = get_or m.channels c y in
+      let was = was-there m.channels b.channels c y two.as_many now in
+      let x = get_or a.channels c u in
+      let at = was-there a.channels m.channels c u one.as_many was in
+      gave-rest b y (rest answer is x u y (one.here x u at was) (two.here u y was now));
 } where
   kept : (answer : Option FinishedState) → is_some answer ≡ true → (u y : ChannelState) → GivesBackNewer answer u y → kept_of y.link + 1 ≡ kept_of u.link
   kept None is u y gives = absurd (false≢true is)
   kept (Some f) is u y gives = newer-kept f u y gives
 
-  rest : (answer : Option FinishedState) → is_some answer ≡ false → (x u y : ChannelState) → GivesBackOlder None x u → GivesBackNewer answer u y → Rests y.link
+  rest : (answer : Option FinishedState) → is_some answer ≡ false → (x u y : ChannelState) → GivesBackOlder None x u → GivesBackNewer answer u y → NoneComes y.link
   rest (Some f) is x u y before gives = absurd (true≢false is)
   rest None is x u y before gives =
       rests-none x.link u.link y.link (before.none refl).1 (gives.none refl).1 (ap (λ (l : LinkState FrameSend). l.older) gives.link)
@@ -224,7 +260,7 @@ all-two c r a m b one same as_many many two = record {
 }
 
 -- all that was given came
-gathered : (end : TaskEndState FrameSend) (u v y : ChannelState) → u.link.came ++ u.link.coming ≡ end.gave → Grows u.link v.link → Rests v.link → IsBeside end v y → y.link.came ≡ end.gave
+gathered : (end : TaskEndState FrameSend) (u v y : ChannelState) → u.link.came ++ u.link.coming ≡ end.gave → Grows u.link v.link → NoneComes v.link → IsBeside end v y → y.link.came ≡ end.gave
 gathered end u v y before grows rests beside =
     let same : y.link.came ≡ v.link.came = ap (λ (ch : ChannelState). ch.link.came) beside.rest in
     let none : y.link.coming ≡ [] =
@@ -342,3 +378,27 @@ end-at xs ends c end are at ch there =
     same_Some ch.link.ring end.ring
     (sym (get-map (λ (z : ChannelState). z.link.ring) xs c ch there) ∙ ap (λ rs. slice_get rs c) (sym are)
     ∙ get-map (λ (z : TaskEndState FrameSend). z.ring) ends c end at)
+
+-- all that came back was taken back: nowhere yet, at one event channel more, and at all
+pub came-none : (s : SlaveState) → CameBelow 0 s
+came-none s c ch below = absurd (omega (arith, below))
+
+pub came-more : (n : ℕ) (a m b : SlaveState) → b.session ≡ m.session → CameBelow n m → TakesAll n m b → CameBelow (n + 1) b
+came-more n a m b same first one c ch below at =
+    elim (eqb_tells c n) [
+      | inl w ↦
+          elim (one.rests ch (ap (slice_get b.channels) (sym w.1) ∙ at)) [
+            | inl busy ↦ inl (subst Busy (sym same) busy)
+            | inr rests ↦ inr rests
+          ]
+      | inr w ↦
+          elim (first c ch (nearer w.1) (sym (one.others c w.1) ∙ at)) [
+            | inl busy ↦ inl (subst Busy (sym same) busy)
+            | inr rests ↦ inr rests
+          ]
+    ] where
+      nearer : c ≢ n → c < n
+      nearer other = omega (arith, below, λ (e : c ≡ n). other e)
+
+pub came-all : (n : ℕ) (s : SlaveState) → length s.channels ≤ n → CameBelow n s → AllCame s
+came-all n s all below c ch at = below c ch (omega (arith, slice_get_within s.channels c ch at, all)) at

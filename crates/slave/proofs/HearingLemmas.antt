@@ -91,6 +91,7 @@ idle-refused d past number k b code opening channels is =
     λ two. record { channel = two.channel; list = two.list; state = two.state; below = two.below; ready = two.ready; state_is = ap (λ xs. slice_get xs two.channel) (sym channels) ∙ two.state_is; two = two.two }
     in
     record {
+      all_came = λ none c ch at. is.all_came none c ch (ap (λ xs. slice_get xs c) (sym channels) ∙ at);
       unopened = λ none. (
         λ busy.
             let two = (is.unopened none).0 busy in

@@ -15,16 +15,16 @@ use Rattle.slave_channels.specs.Channels.{ChannelState, keeps_two}
 use Rattle.slave_channels.specs.Calls.{CanStartAll, HasSome, Looks, OpensAt, OpenedAndEnded, StartsAt}
 use Rattle.slave_channels.specs.Each.{IsEach}
 use Rattle.slave_channels.specs.Calls.{rings_of}
-use Rattle.slave.specs.Hearing.{MayOpen, most_before, HasNoRoom, IsIdleRefusal}
+use Rattle.slave.specs.Hearing.{MayOpen, most_before, HasNoRoom, IsIdleRefusal, NoneComes}
 use Rattle.slave.specs.Openings.{capacities_of}
 use Rattle.slave.specs.Pages.{page_over}
 use Rattle.slave.specs.Plans.{IsSame, plan_of}
 use Rattle.slave.proofs.PlanLemmas.{as-opened, is-same, just-opened}
 use Rattle.session.specs.Profiles.{lists_of}
 use Rattle.xcp_base.specs.declared.err_code.ErrCode.TheVariants.{CmdBusy, MemoryOverflow, Sequence}
-use Rattle.slave.specs.Inner.{AreSets, Busy, HasParts, HasRoom, Idle, IsPlaceRefusal, IsRefusedAt, NoneIsTooLong, LooksAtAll, OpensAll, OpensInVain, OpensNone, Prepares, SlaveStarted, StartsInVain, StartsLists, WantsRoom, AreJustOut}
+use Rattle.slave.specs.Inner.{AllCame, AreSets, Busy, HasParts, HasRoom, Idle, IsPlaceRefusal, IsRefusedAt, NoneIsTooLong, LooksAtAll, OpensAll, OpensInVain, OpensNone, Prepares, SlaveStarted, StartsInVain, StartsLists, WantsRoom, AreJustOut}
 use Rattle.slave.specs.Log.{Act, Opened, opened, past_of}
-use Rattle.slave.specs.Standing.{SlaveHas, PartsStandAfter, SlaveState, number_of}
+use Rattle.slave.specs.Standing.{NoneRuns, SlaveHas, PartsStandAfter, SlaveState, number_of}
 use Rattle.slave.proofs.StandingLemmas.{lines-looked, lines-new, lines-started, looks-at-all, looks-ended, opens-all, opens-in-vain, parts-all, parts-vain, starts-all, starts-no-list, starts-parts, Parts, are-parts, has-some, there-is}
 use Rattle.slave.proofs.OutLemmas.{was-there, new-number}
 use Rattle.slave.proofs.DeedLemmas.{opened-more}
@@ -272,15 +272,24 @@ no-room s past wants stands =
       right true y is = is
       right false y is = absurd (false≢true is)
 
+-- what is known to have come back was taken back, since no list runs
+came-all : (a b : SlaveState) (past : Past) → AllCame a → b ≡ a → SessionStandsAfter a.session past → NoneRuns past → (c : ℕ) (ch : ChannelState) → slice_get b.channels c ≡ Some ch → NoneComes ch.link
+came-all a b past came same stands none c ch at =
+    elim (came c ch (ap (λ (s : SlaveState). slice_get s.channels c) (sym same) ∙ at)) [
+      | inl busy ↦ absurd (busy past stands none)
+      | inr rests ↦ rests
+    ]
+
 -- or since a measurement isn't opened, for want of memory
-pub memory-in-vain : (a b : SlaveState) (lists : ℕ) (code : ErrCode) → code ≡ MemoryOverflow → HasRoom a → Idle a.session → HasSome lists → b ≡ a → StartsInVain 1 a b lists code
-memory-in-vain a b lists code is room idle some same = record {
+pub memory-in-vain : (a b : SlaveState) (lists : ℕ) (code : ErrCode) → code ≡ MemoryOverflow → AllCame a → HasRoom a → Idle a.session → HasSome lists → b ≡ a → StartsInVain 1 a b lists code
+memory-in-vain a b lists code is came room idle some same = record {
   is = inr (inr is);
   some = some;
   opening = [];
   may_open = nothing-opened 1;
   places = λ past stands run other. absurd (run (idle past stands));
   when_idle = λ past stands none. record {
+    all_came = λ unopened. came-all a b past came same stands none;
     unopened = λ unopened. (
       λ busy. absurd (not-both (sym busy ∙ is)),
       λ two. absurd (false≢true (sym (room-here a past two.channel two.list two.state room stands two.below two.ready (ap (λ (s : SlaveState). slice_get s.channels two.channel) (sym same) ∙ two.state_is)) ∙ two.two)),
@@ -295,14 +304,15 @@ memory-in-vain a b lists code is room idle some same = record {
   not-both e = cc
 
 -- or since there is no room for one
-pub full-in-vain : (a : SlaveState) (lists : ℕ) → WantsRoom a → Idle a.session → HasSome lists → StartsInVain 1 a a lists CmdBusy
-full-in-vain a lists wants idle some = record {
+pub full-in-vain : (a : SlaveState) (lists : ℕ) → AllCame a → WantsRoom a → Idle a.session → HasSome lists → StartsInVain 1 a a lists CmdBusy
+full-in-vain a lists came wants idle some = record {
   is = inr (inl refl);
   some = some;
   opening = [];
   may_open = nothing-opened 1;
   places = λ past stands run other. absurd (run (idle past stands));
   when_idle = λ past stands none. record {
+    all_came = λ unopened. came-all a a past came refl stands none;
     unopened = λ unopened. (λ busy. no-room a past wants stands, λ two. refl);
     ended = λ some two. absurd (some refl);
   };
@@ -395,14 +405,14 @@ own-part a b past room stands as_many parts two =
 
 idle-opened : (a b : SlaveState) (past : Past) (at : ℕ → Bool) (code : ErrCode) → ((two : HasNoRoom a.session.profile past b) → number_of two.state.newer ≡ Some a.number)
     → IsIdleRefusal a.session.profile past a.number b code (Opened at ∷ [])
-idle-opened a b past at code own = record { unopened = λ none. absurd (one none); ended = λ some two. own two } where
+idle-opened a b past at code own = record { all_came = λ none. absurd (one none); unopened = λ none. absurd (one none); ended = λ some two. own two } where
   one : opened (Opened at ∷ []) ≡ 0 → ⊥
   one none = omega (arith, opened-more at [], none)
 
-pub none-in-vain : (a b : SlaveState) (lists : ℕ) (code : ErrCode) → HasRoom a → Idle a.session → HasSome lists → NoneIsTooLong a.session lists → OpensNone a b code → StartsInVain 1 a b lists code
-none-in-vain a b lists code room idle some rings opens =
+pub none-in-vain : (a b : SlaveState) (lists : ℕ) (code : ErrCode) → AllCame a → HasRoom a → Idle a.session → HasSome lists → NoneIsTooLong a.session lists → OpensNone a b code → StartsInVain 1 a b lists code
+none-in-vain a b lists code came room idle some rings opens =
     elim opens [
-      | inl memory ↦ memory-in-vain a b lists code memory.0 room idle some memory.1
+      | inl memory ↦ memory-in-vain a b lists code memory.0 came room idle some memory.1
       | inr both ↦ vain-in-vain a b lists code both.0 room idle some rings both.1
     ] where
       vain-in-vain : (a b : SlaveState) (lists : ℕ) (code : ErrCode) → IsPlaceRefusal code → HasRoom a → Idle a.session → HasSome lists → NoneIsTooLong a.session lists → OpensInVain a b → StartsInVain 1 a b lists code

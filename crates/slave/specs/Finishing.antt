@@ -1,11 +1,13 @@
 -- What came back of a measurement at an event channel of a slave.
-use Rattle.std.specs.Prelude.{◌≡◌, ℕ, List, [], ◌∷◌, length, Option, IfSome, IsNone}
+use Rattle.std.specs.Prelude.{◌≡◌, ◌⊎◌, ℕ, ◌+◌, ◌%◌, true, List, [], ◌∷◌, length}
+use Rattle.std.specs.Prelude.{Option, Some, IfSome, IsNone}
 use Rattle.sampler.specs.Past.{Past}
 use Rattle.slave_outbox.specs.Intakes.{StandsAfter}
-use Rattle.slave_channels.specs.Channels.{FinishedState, IsPastOf}
-use Rattle.slave.specs.Hearing.{GoesBy}
+use Rattle.tasks.specs.Links.{is_out}
+use Rattle.slave_channels.specs.Channels.{ChannelState, FinishedState, IsPastOf, number_of}
+use Rattle.slave.specs.Hearing.{GoesBy, NoneComes}
 use Rattle.slave.specs.Log.{Act, CameBack, deeds_of}
-use Rattle.slave.specs.Standing.{PartsStandAfter, SlaveState}
+use Rattle.slave.specs.Standing.{Busy, PartsStandAfter, SlaveState}
 use Rattle.slave.specs.Openings.{IsOpenedAfter, past_at}
 
 -- the intake of what came back stands after all that was done with its ring, by the slave's log
@@ -36,6 +38,17 @@ pub record GivesBackBy (goes : SlaveState → SlaveState → List Act → Type 0
       (past : Past) → IsPastOf f past → goes a b (CameBack f.number c past ∷ []))
   pub finished : IfSome answer (IsFinishedOf a c)
   pub opened : IfSome answer (IsOpenedThere a c)
+
+-- a part that is kept as the last of an event channel is of the newest measurement
+abbrev pub IsOfNewest : SlaveState → ChannelState → Type 0
+IsOfNewest s ch =
+    (m : ℕ) → number_of ch.newer ≡ Some m → (m + 1) % 18446744073709551616 ≡ s.number
+
+-- all that is known to have come back at an event channel was given back, but for what is left of
+-- the newest measurement while lists run
+pub record GaveAll (s : SlaveState) (ch : ChannelState) : Type 0 where
+  pub older : is_out ch.link.older ≡ true → ch.link.coming ≡ []
+  pub newer : NoneComes ch.link ⊎ (Busy s.session × IsOfNewest s ch)
 
 abbrev pub GivesBack : SlaveState → SlaveState → ℕ → Option FinishedState → Type 0
 GivesBack a b c answer = GivesBackBy GoesBy a b c answer

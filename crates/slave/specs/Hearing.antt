@@ -11,7 +11,8 @@ use Rattle.session.specs.Past.{Given, Past}
 use Rattle.session.specs.Starts.{is_on, starts}
 use Rattle.session.specs.declared.profile.Profile.{Profile}
 use Rattle.slave_outbox.specs.Outboxes.{has_room}
-use Rattle.tasks.specs.Links.{CanStart}
+use Rattle.frame_ring.specs.declared.frame_send.FrameSend.{FrameSend}
+use Rattle.tasks.specs.Links.{CanStart, LinkState, is_out}
 use Rattle.slave_channels.specs.Channels.{ChannelState, keeps_two, number_of}
 use Rattle.slave_channels.specs.Calls.{CanStartAll, rings_of}
 use Rattle.slave.specs.Log.{Act, CameBack, Discarded, Heard, HungUp, Opened, Refused, Sent, Took}
@@ -84,6 +85,10 @@ pub record StartsTooLong (d : Profile) (past : Past) (packet : List ℕ) : Type 
   pub starts_it : starts d past packet list ≡ true
   pub long : is_too_long d past list ≡ true
 
+-- over the line with a task nothing is known to come, or nothing is out that could
+abbrev pub NoneComes : LinkState FrameSend → Type 0
+NoneComes link = (link.coming ≡ []) ⊎ ((is_out link.older ≡ false) × (is_out link.newer ≡ false))
+
 -- at an event channel of which a list is ready the parts of two measurements are kept
 pub record HasNoRoom (d : Profile) (past : Past) (s : SlaveState) : Type 0 where
   pub channel : ℕ
@@ -94,13 +99,16 @@ pub record HasNoRoom (d : Profile) (past : Past) (s : SlaveState) : Type 0 where
   pub state_is : slice_get s.channels channel ≡ Some state
   pub two : keeps_two state ≡ true
 
--- a start was refused where no list runs. No measurement was opened: then with ERR_CMD_BUSY
--- exactly if there is no room for one more. Or one was, with this number, and ended at once: then
--- there was room, since of two parts that are kept one is its own; but memory ran out, or a task
--- was at its place just then
+-- a start was refused where no list runs. No measurement was opened: then all that is known to have
+-- come back was taken back, and it was refused with ERR_CMD_BUSY exactly if there is no room for
+-- one more. Or one was, with this number, and ended at once: then there was room, since of two
+-- parts that are kept one is its own; but memory ran out, or a task was at its place just then
 pub record IsIdleRefusal (d : Profile) (past : Past) (number : ℕ) (s : SlaveState)
     (code : ErrCode) (opening : List Act)
     : Type 0 where
+  pub all_came :
+      opened opening ≡ 0 → (c : ℕ) (ch : ChannelState) → slice_get s.channels c ≡ Some ch
+      → NoneComes ch.link
   pub unopened : opened opening ≡ 0 → (code ≡ CmdBusy) ↔ HasNoRoom d past s
   pub ended :
       opened opening ≢ 0 → (two : HasNoRoom d past s) → number_of two.state.newer ≡ Some number

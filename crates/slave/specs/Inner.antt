@@ -20,7 +20,7 @@ use Rattle.session.specs.declared.profile.Profile.{Profile}
 use Rattle.sampler.specs.State.{SamplerState}
 use Rattle.channel_ring.specs.Orders.{TakeState}
 use Rattle.xcp_base.specs.Counts.{one_if}
-use Rattle.tasks.specs.Links.{LinkState, is_out, just_out}
+use Rattle.tasks.specs.Links.{LinkState, just_out}
 use Rattle.tasks.specs.Tasks.{TaskEndState}
 use mathlib.Core.List.{IsPrefix}
 use Rattle.std.specs.Option.{is_some}
@@ -43,7 +43,9 @@ use Rattle.slave_channels.specs.Calls.{HaveRoom, KeepsNoneOf, KeepsNoneWithin, K
 use Rattle.slave_channels.specs.Calls.{Looks, OpenedAndEnded, OpensAt}
 use Rattle.slave_channels.specs.Calls.{StartsAt, StopsAll}
 use Rattle.slave_channels.specs.Each.{IsEach, IsOnlyAt}
-use Rattle.slave.specs.Hearing.{IsStartRefusal, KeepsLines, MayOpen, IsIdleRefusal, is_spent}
+use Rattle.slave.specs.Finishing.{GaveAll}
+use Rattle.slave.specs.Hearing.{IsStartRefusal, KeepsLines, MayOpen, IsIdleRefusal, NoneComes}
+use Rattle.slave.specs.Hearing.{is_spent}
 use Rattle.slave.specs.Taking.{HasRunning, IsEmptyAt, IsHeldUp, LetsGoAt, LooksAt, LooksTimes}
 use Rattle.slave.specs.Taking.{known_of, newest_at, older_at}
 use Rattle.slave.specs.declared.round.Round.{Round}
@@ -486,10 +488,6 @@ kept_of l = one_if (is_some l.older) + one_if (is_some l.newer)
 abbrev pub Grows : LinkState FrameSend → LinkState FrameSend → Type 0
 Grows l m = IsPrefix (l.came ++ l.coming) (m.came ++ m.coming)
 
--- nothing is known to come, or nothing is out
-abbrev pub Rests : LinkState FrameSend → Type 0
-Rests m = (m.coming ≡ []) ⊎ ((is_out m.older ≡ false) × (is_out m.newer ≡ false))
-
 -- what came back at event channel c was taken back, if something did: then one sampler less is
 -- kept; else some list runs, or nothing is to come
 pub record TakesOne (c : ℕ) (some : Bool) (a b : SlaveState) : Type 0 where
@@ -502,7 +500,9 @@ pub record TakesOne (c : ℕ) (some : Bool) (a b : SlaveState) : Type 0 where
       → slice_get b.channels c ≡ Some y → kept_of y.link + 1 ≡ kept_of x.link
   pub no :
       some ≡ false → (y : ChannelState) → slice_get b.channels c ≡ Some y
-      → Busy a.session ⊎ Rests y.link
+      → Busy a.session ⊎ NoneComes y.link
+  pub gave_all :
+      some ≡ false → (y : ChannelState) → slice_get b.channels c ≡ Some y → GaveAll b y
 
 -- all that came back there was taken back
 pub record TakesAll (c : ℕ) (a b : SlaveState) : Type 0 where
@@ -510,7 +510,20 @@ pub record TakesAll (c : ℕ) (a b : SlaveState) : Type 0 where
   pub grows :
       (x y : ChannelState) → slice_get a.channels c ≡ Some x
       → slice_get b.channels c ≡ Some y → Grows x.link y.link
-  pub rests : (y : ChannelState) → slice_get b.channels c ≡ Some y → Busy a.session ⊎ Rests y.link
+  pub rests :
+      (y : ChannelState) → slice_get b.channels c ≡ Some y → Busy a.session ⊎ NoneComes y.link
+
+-- all that came back was taken back, at each event channel, if no list runs
+abbrev pub AllCame : SlaveState → Type 0
+AllCame s =
+    (c : ℕ) (ch : ChannelState) → slice_get s.channels c ≡ Some ch
+    → Busy s.session ⊎ NoneComes ch.link
+
+-- so at the first n event channels
+abbrev pub CameBelow : ℕ → SlaveState → Type 0
+CameBelow n s =
+    (c : ℕ) (ch : ChannelState) → c < n → slice_get s.channels c ≡ Some ch
+    → Busy s.session ⊎ NoneComes ch.link
 
 -- all that the task of event channel c gave back came, if no list runs
 pub record Gathers (c : ℕ) (end : TaskEndState FrameSend) (a b : SlaveState) : Type 0 where

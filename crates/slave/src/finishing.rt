@@ -1,11 +1,14 @@
 //! What came back of measurements is handed out.
-ghost use Rattle.std.specs.Prelude.{◌≡◌, ◌+◌, ◌*◌, ◌<◌, IsNone, OnSome, length, true, false};
+ghost use Rattle.std.specs.Prelude.{◌≡◌, ℕ, ◌+◌, ◌*◌, ◌<◌, IsNone, OnSome, Some, length, slice_get};
+ghost use Rattle.std.specs.Prelude.{true, false};
 ghost use Rattle.xcp_base.specs.declared.limits.TheConstants.{MAX_CHANNELS};
-ghost use Rattle.slave.specs.Finishing.{GivesBack, GivesBackBy};
+ghost use Rattle.slave.specs.Finishing.{GaveAll, GivesBack, GivesBackBy, IsOfNewest};
+ghost use Rattle.slave.specs.Hearing.{is_spent};
 ghost use Rattle.slave.specs.declared.limits.TheConstants.{PER_ACT};
-ghost use Rattle.slave.specs.Inner.{Busy, Collects, Idle, IsOver, Notes, PartsGoBy, TakesAll};
+ghost use Rattle.slave.specs.Inner.{AllCame, Busy, Collects, Idle, IsOver, Notes, PartsGoBy, TakesAll};
 ghost use Rattle.slave.specs.Inner.{TakesOne};
 ghost use Rattle.slave_channels.specs.Calls.{GivesBackNewer, GivesBackOlder};
+ghost use Rattle.slave_channels.specs.Channels.{ChannelState};
 ghost use Rattle.slave_channels.specs.Each.{IsOnlyAt};
 ghost use Rattle.std.specs.Option.{is_some};
 
@@ -31,6 +34,8 @@ impl Slave {
     /// A start that opens a measurement takes back what came back before.
     pub fn take_back(&mut self, c: usize) -> Option<Finished>
         ensures back { GivesBack self.old self.new c result }
+        ensures gave_all { IsNone result → is_spent self.old ≡ false → (ch : ChannelState)
+            → slice_get self.new.channels c ≡ Some ch → GaveAll self.new ch }
         ensures counts { OnSome result (self.new.acts ≡ self.old.acts + PER_ACT) }
         ensures acts_stay { IsNone result → self.new.acts ≡ self.old.acts }
         ensures next_stays { self.new.next ≡ self.old.next }
@@ -68,6 +73,8 @@ impl Slave {
         requires channel { c < length self.now.channels }
         ensures over { result ≡ true → IsOver self.now c }
         ensures busy { result ≡ false → Busy self.now.session }
+        ensures newest { result ≡ false → (ch : ChannelState)
+            → slice_get self.now.channels c ≡ Some ch → IsOfNewest self.now ch }
     {
         if self.is_idle() {
             return true;
@@ -80,7 +87,8 @@ impl Slave {
 
     /// Takes back what came back, at all event channels.
     pub(crate) fn collect(&mut self)
-        ensures { Collects (2 * MAX_CHANNELS) self.old self.new }
+        ensures collects { Collects (2 * MAX_CHANNELS) self.old self.new }
+        ensures all { AllCame self.new }
     {
         for c in 0..self.channels.len() {
             self.collect_at(c);

@@ -2,7 +2,7 @@
 ghost use Rattle.std.specs.Prelude.{◌≡◌, ◌<◌, IfErr, OnErr, OnOk, length, true, false};
 ghost use Rattle.xcp_base.specs.declared.limits.TheConstants.{MAX_CHANNELS};
 ghost use Rattle.slave.specs.Hearing.{most_before};
-ghost use Rattle.slave.specs.Inner.{AreJustOut, AreSets, Busy, HasRoom, Idle};
+ghost use Rattle.slave.specs.Inner.{AllCame, AreJustOut, AreSets, Busy, HasRoom, Idle};
 ghost use Rattle.slave.specs.Inner.{IsPlaceRefusal, IsRefusedAt, IsSetOn, LooksAtAll, OpensAll, OpensInVain};
 ghost use Rattle.slave.specs.Inner.{NoneIsTooLong, OpensNone, Prepares};
 ghost use Rattle.slave.specs.Inner.{StartsInVain, StartsLists, WantsRoom};
@@ -80,6 +80,7 @@ impl Slave {
     /// Opens a measurement, if there is room for one more, and for the samples of these lists in
     /// their rings, and orders their starts.
     fn start_new(&mut self, alloc: Global, lists: ListSet) -> Result<(), ErrCode>
+        requires came { AllCame self.old }
         requires idle { Idle self.old.session }
         requires some { HasSome lists }
         ensures ok { OnOk result (Prepares 1 self.old self.new lists) }

@@ -8,7 +8,7 @@ returns-in-Some-clause-one c =
 pub returns-then-not-is_over-clause-one : goal.returns-then-not-is_over-clause-one
 returns-then-not-is_over-clause-one c =
     one-busy c.args.self.now c.take_older.new.self c.args.c c.in_default.ensures.there c.take_older.ensures.back.session
-    (c.is_over.ensures.busy c.if-not-is_over.true)
+    (c.is_over.ensures.busy c.if-not-is_over.true) (c.is_over.ensures.newest c.if-not-is_over.true)
 
 pub returns-clause-one : goal.returns-clause-one
 returns-clause-one c =
