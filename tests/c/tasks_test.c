@@ -155,7 +155,8 @@ static void open_slave(size_t cap, ng_slave *slave, struct sampling *samplings) 
     for (unsigned c = 0; c < CHANNELS; c++) events[c].capacity = cap;
     want(ng_slave_open(&profile, segments, CHANNELS, events, CHANNELS, NO_A2L, slave) == NG_OK,
          "open");
-    counter = 0;
+    /* a reply that waited when the slave before was closed was thrown away */
+    counter = waiting = 0;
     for (unsigned c = 0; c < CHANNELS; c++) {
         struct sampling none = {NG_TASK_INIT, c, {0}, 0, 0, false};
         samplings[c] = none;
