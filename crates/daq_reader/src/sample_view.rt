@@ -1,7 +1,7 @@
 //! What a sample shows: its overload indication, its timestamp, the bytes of its entries.
 ghost use Rattle.std.specs.Prelude.{◌≡◌, ◌<◌, [], length, map, slice_index_or, vec_items};
 ghost use Rattle.std.specs.Option.{option_copied};
-ghost use Rattle.daq_reader.specs.Recorded.{element};
+ghost use Rattle.daq_reader.specs.Recorded.{IsRecorded, element};
 
 use crate::list_shape::ListShape;
 use std::marker::Model;
@@ -31,9 +31,10 @@ impl<'a> Model for SampleView<'a> {
 }
 
 impl<'a> SampleView<'a> {
-    /// The shape of the list.
+    /// The shape of the list, of which the sample has all entries.
     pub fn shape(&self) -> &ListShape
-        ensures { result.now ≡ self.now.plan }
+        ensures shape { result.now ≡ self.now.plan }
+        ensures sample { IsRecorded self.now.plan self.now.sample }
     {
         self.shape
     }

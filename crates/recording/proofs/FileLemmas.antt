@@ -23,7 +23,7 @@ use Rattle.recording.specs.declared.place.Place.{Place}
 use Rattle.recording.specs.declared.recording_fault.RecordingFault.{RecordingFault}
 use Rattle.recording.specs.declared.recording_fault.RecordingFault.TheVariants.{InReplies, Memory, NoValue, OtherRun, Unreadable}
 use Rattle.recording.specs.declared.values.Values.{Values}
-use Rattle.recording.specs.Files.{ArePassed, IsFaultBehind, IsFaultOfFile, IsFileWith, IsNotOfRecording, IsOfTearOr, ShowsBehind}
+use Rattle.recording.specs.Files.{ArePassed, IsFaultBehind, IsFaultOfFile, IsFaultOfReplies, IsFileWith, IsNotOfRecording, IsOfTearOr, ShowsBehind}
 use Rattle.recording.specs.Pieces.{unread_at, unread_with}
 use Rattle.recording.specs.Stops.{IsFront, IsWhole}
 
@@ -98,20 +98,28 @@ torn_file view recorded written lost input rest Memory w h = tt
 torn_file view recorded written lost input rest fault w h =
     behind_torn view _ _ written h.behind rest h.first h.last fault (is_front recorded written lost input h.behind h.first w h.passed) h.is
 
--- a fault of the replies is one of the file
-pub of_replies : {T : Type 0} (view : View) (recorded : RunRecording) (input rest : Option (List ℕ)) (result : Result T RecordingFault) (fault : RecordingFault)
+-- a fault of the replies
+pub of_replies : {T : Type 0} (recorded : RunRecording) (input : Option (List ℕ)) (result : Result T RecordingFault) (fault : RecordingFault)
     → result ≡ Err fault → IfErr result (λ f. (f ≡ OtherRun) ⊎ (f ≡ InReplies) ⊎ (f ≡ Unreadable) ⊎ (f ≡ Memory))
     → (result ≡ Err OtherRun → IfSome input (λ bytes. ¬ StartsWith bytes recorded.replies.now))
     → (result ≡ Err InReplies → IfSome input (λ bytes. StartsWith recorded.replies.now bytes × (length bytes < length recorded.replies.now)))
-    → IsFaultOfFile view recorded input rest fault
-of_replies view recorded input rest result fault is one other within =
-    let IsSo = λ (f : RecordingFault). IsFaultOfFile view recorded input rest f in
+    → IsFaultOfReplies recorded input fault
+of_replies recorded input result fault is one other within =
+    let IsSo = λ (f : RecordingFault). IsFaultOfReplies recorded input f in
     elim (subst (λ r. IfErr r (λ f. (f ≡ OtherRun) ⊎ (f ≡ InReplies) ⊎ (f ≡ Unreadable) ⊎ (f ≡ Memory))) is one) [
       | inl e ↦ subst IsSo (sym e) (other (is ∙ ap Err e))
       | inr (inl e) ↦ subst IsSo (sym e) (within (is ∙ ap Err e))
       | inr (inr (inl e)) ↦ subst IsSo (sym e) tt
       | inr (inr (inr e)) ↦ subst IsSo (sym e) tt
     ]
+
+-- is one of the file
+pub as_of_file : (view : View) (recorded : RunRecording) (input rest : Option (List ℕ)) (fault : RecordingFault) → IsFaultOfReplies recorded input fault → IsFaultOfFile view recorded input rest fault
+as_of_file view recorded input rest OtherRun h = h
+as_of_file view recorded input rest InReplies h = h
+as_of_file view recorded input rest Unreadable h = tt
+as_of_file view recorded input rest Memory h = tt
+as_of_file view recorded input rest fault h = absurd h
 
 -- no fault behind the replies is one of them
 no_replies : (view : View) (d : Option Description) (lists : List Reading) (input rest : Option (List ℕ)) (first last : Piece) → IsFaultBehind view d lists input rest first last OtherRun → ⊥

@@ -1,5 +1,6 @@
 mod ByNameLemmas
 pub mod FileLemmas
+pub mod MeasuredLemmas
 pub mod FrontLemmas
 pub mod PassLemmas
 pub mod PieceLemmas

@@ -97,6 +97,18 @@ IsFaultBehind view (Some description) lists input rest first last fault =
 IsFaultBehind view None lists input rest first last fault =
     IsFaultOfSamples lists input rest first last fault
 
+-- the replies of a file weren't passed for this: it doesn't begin with them, or is a front of
+-- theirs; it can't be read, or memory ran out
+abbrev pub IsFaultOfReplies : RunRecording → Option (List ℕ) → RecordingFault → Type 0
+IsFaultOfReplies recorded input OtherRun =
+    IfSome input (λ bytes. ¬ StartsWith bytes recorded.replies.now)
+IsFaultOfReplies recorded input InReplies =
+    IfSome input (λ bytes.
+    StartsWith recorded.replies.now bytes × (length bytes < length recorded.replies.now))
+IsFaultOfReplies recorded input Unreadable = Unit {0}
+IsFaultOfReplies recorded input Memory = Unit {0}
+IsFaultOfReplies recorded input fault = ⊥
+
 -- a file isn't shown for this: it doesn't begin with the replies, or is a front of theirs; it can't
 -- be read, or memory ran out; or what stands behind the replies isn't shown
 abbrev pub IsFaultOfFile :

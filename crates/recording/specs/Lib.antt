@@ -1,6 +1,8 @@
 pub mod ByName
 pub mod Faults
 pub mod Files
+pub mod Measured
+pub mod Outs
 pub mod Pieces
 pub mod RunFiles
 pub mod Sheets

@@ -2,11 +2,14 @@
 //! a table, as CSV, as a picture, by name or in words.
 #![tactic(auto)]
 
+mod beginning;
 mod break_off;
 mod curve_sheet;
 mod drawing;
 mod explaining;
+mod file_groups;
 mod file_sheet;
+mod file_values;
 mod file_writing;
 pub mod laws;
 mod messages;
@@ -29,8 +32,10 @@ mod values;
 mod view;
 mod whole_file;
 
+pub use beginning::begin_recording;
 pub use break_off::BreakOff;
-pub use file_writing::{FileValues, begin_recording, write_values};
+pub use file_values::FileValues;
+pub use file_writing::write_values;
 pub use messages::Messages;
 pub use mode::Mode;
 pub use not_shown::tell_not_shown;

@@ -8,9 +8,9 @@ ghost use Rattle.recording.specs.Files.{IsNotOfRecording, IsOfTearOr, IsReadFile
 ghost use Rattle.recording.specs.Files.{ShowsBehind, ShowsFile};
 ghost use Rattle.recording.specs.Shown.{IsRead};
 
+use crate::beginning::begin_recording;
 use crate::explaining::explain_samples;
 use crate::messages::Messages;
-use crate::recording::pass_replies;
 use crate::recording_fault::RecordingFault;
 use crate::run_recording::RunRecording;
 use crate::showing::show_samples;
@@ -63,9 +63,7 @@ fn shown_of<I: Read + Drop, W: Write + Drop, M: Messages>(
     ensures fault { IfErr result (IsFaultOfFile view.entry recorded.now
         (I.remaining from.old.input) (I.remaining from.new.input)) }
 {
-    let frames = recorded.run.setup().len();
-    let piece = pass_replies(alloc, &mut from.input, recorded.replies, frames)?;
-    from.piece = piece;
+    begin_recording(alloc, recorded, from)?;
     show_behind(alloc, view, recorded, from, out)
 }
 

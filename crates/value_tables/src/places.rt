@@ -1,7 +1,6 @@
 //! The bytes of a sample's entries, one behind another, and where those of a value stand in them.
 ghost use Rattle.std.specs.Prelude.{◌≡◌, ◌≤◌, ◌++◌, OnOk, length, take};
 ghost use Rattle.copy_plan.specs.Config.{IsPlan, odt};
-ghost use Rattle.daq_reader.specs.Recorded.{IsRecorded};
 ghost use Rattle.value_tables.specs.Places.{entries_len, entry_bytes, joined, listed, listed_in};
 ghost use Rattle.value_tables.specs.Places.{most_of_odt, most_of_sample, odts_len, place_for};
 ghost use Rattle.value_tables.specs.Places.{sample_len};
@@ -64,8 +63,8 @@ fn entries_len(shape: &ListShape, k: usize, count: usize) -> u32
 pub fn push_entries(out: &mut Vec<u8>, sample: &SampleView<'_>) -> Result<(), AllocError>
     ensures listed { OnOk result
         (out.new.items ≡ out.old.items ++ listed sample.now.plan sample.now.sample) }
-    ensures joined { OnOk result (IsRecorded sample.now.plan sample.now.sample
-        → out.new.items ≡ out.old.items ++ joined sample.now.sample) }
+    ensures joined { OnOk result
+        (out.new.items ≡ out.old.items ++ joined sample.now.sample) }
 {
     for k in 0..sample.shape().odts() {
         push_odt(out, sample, k)?;

@@ -1,4 +1,4 @@
-use Rattle.std.proofs.Common.{ap, refl}
+use Rattle.std.proofs.Common.{ap}
 use Rattle.recording.specs.Shown.{IsShown}
 use Rattle.recording.specs.declared.mode.Mode.TheVariants.{Summary}
 use Rattle.recording.proofs.ShownLemmas.{of_start, of_writer, shown_as}

@@ -1,4 +1,4 @@
-use Rattle.std.proofs.Common.{◌∙◌, Err, ap, sym}
+use Rattle.std.proofs.Common.{Err, ap, sym}
 use Rattle.daq_reader.specs.Ready.{ready_lists}
 use Rattle.recording.proofs.ShownLemmas.{of_writer}
 use Rattle.recording.proofs.ByNameLemmas.{as_values, by_name, has_chosen, no_columns}

@@ -13,11 +13,11 @@ loop-k-preserved c =
 
 -- those of all ODTs are the sample's
 pub returns-clause-joined : goal.returns-clause-joined
-returns-clause-joined c is =
+returns-clause-joined c =
     let shown = c.args.sample.now in
     let out = c.args.out.now.items in
-    let plan : length c.shape.result.now.odts ≡ length shown.plan.odts = ap (λ plan. length plan.odts) c.shape.ensures in
+    let plan : length c.shape.result.now.odts ≡ length shown.plan.odts = ap (λ plan. length plan.odts) c.shape.ensures.shape in
     let all : c.loop-k.k ≡ length shown.plan.odts = omega (arith, c.loop-k.auto.k-end, c.loop-k-test.false, c.odts-k-end.ensures.value, plan) in
     c.loop-k.invariant
     ∙ ap (λ n. out ++ flat_map (listed_in shown.plan shown.sample) (range_with_len 0 n)) all
-    ∙ ap (λ bytes. out ++ bytes) (listed_are_joined shown.plan shown.sample is)
+    ∙ ap (λ bytes. out ++ bytes) (listed_are_joined shown.plan shown.sample c.shape.ensures.sample)
