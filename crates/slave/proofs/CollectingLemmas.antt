@@ -6,7 +6,7 @@ use Rattle.std.proofs.lemmas.Bool.{false≢true}
 use Rattle.std.proofs.lemmas.List.Folds.{list_all-append}
 use Rattle.std.proofs.lemmas.List.Sums.{sum_by-append, sum_by-cons}
 use Rattle.xcp_base.specs.declared.err_code.ErrCode.{ErrCode}
-use Rattle.xcp_base.specs.declared.err_code.ErrCode.TheVariants.{CmdBusy, Sequence}
+use Rattle.xcp_base.specs.declared.err_code.ErrCode.TheVariants.{Sequence}
 use Rattle.xcp_base.specs.declared.limits.TheConstants.{MAX_CHANNELS, MAX_TAKEN}
 use Rattle.session.specs.declared.profile.Profile.{Profile}
 use Rattle.session.specs.Past.{Past}

@@ -6,9 +6,10 @@ use Rattle.std.proofs.lemmas.Bool.{false≢true}
 use Rattle.std.proofs.lemmas.Bool.Decides.{eqb_tells}
 use Rattle.std.proofs.lemmas.Option.{same_Some, slice_get_within}
 use mathlib.Core.List.{IsPrefix}
+use Rattle.frame_ring.specs.contracts.frame_send.FrameSendSendEnd.TheImpl.{ghosts as send}
 use Rattle.frame_ring.specs.declared.frame_send.FrameSend.{FrameSend}
 use Rattle.xcp_base.specs.Counts.{one_if}
-use Rattle.tasks.specs.Links.{AwayState, LinkState, LooksAtNewest, NoneIsBack, NothingCame, is_out, is_running, takes_orders}
+use Rattle.tasks.specs.Links.{AwayState, LinkState, LooksAtNewest, NoneIsBack, NothingCame, is_here, is_out, is_running, takes_orders}
 use Rattle.tasks.specs.Tasks.{TaskEndState}
 use Rattle.tasks.specs.Ways.{LeftState}
 use Rattle.slave_channels.specs.Channels.{ChannelState, FinishedState, IsBackOf, ShareState}
@@ -50,11 +51,12 @@ grows-next l m left more pre = (
       ∙ ap (λ xs. xs ++ m.coming) (sym more),
 )
 
-grows-none : (l m : LinkState FrameSend) (waits : Bool) (a b : Option (AwayState FrameSend)) → NoneIsBack l m waits a b → Grows l m
+grows-none : (l m : LinkState FrameSend) (waits : Bool) (a b : Option (AwayState FrameSend)) → NoneIsBack send l m waits a b → Grows l m
 grows-none l m waits a b none =
     elim none.way [
       | inl s ↦ grows-nothing l m s.nothing
-      | inr w ↦ grows-next l m w.1.left w.1.came w.1.known
+      | inr (inl (free, w)) ↦ grows-next l m w.left w.came w.known
+      | inr (inr h) ↦ grows-nothing l m h.nothing
     ]
 
 pub grows-twice : (l m n : LinkState FrameSend) → Grows l m → Grows m n → Grows l n
@@ -73,25 +75,39 @@ looked-some (Some x) (Some y) looks = refl
 looked-some None (Some y) looks = elim looks [ ]
 looked-some (Some x) None looks = elim looks [ ]
 
--- nothing is back of either, so nothing is to come, or nothing is out
-rests-none : (x u y : LinkState FrameSend) → NoneIsBack x u false x.older u.older → NoneIsBack u y (is_out u.older) u.newer y.newer → y.older ≡ u.older → NoneComes y
-rests-none x u y one two same =
-    elim two.way [
-      | inl s ↦
-          elim (is-bool (is_out u.older)) [
-            | inl on ↦
-                elim one.way [
-                  | inl t ↦ inl (s.nothing.coming ∙ t.nothing.coming ∙ t.no_more refl on)
-                  | inr w ↦ absurd (true≢false (sym on ∙ w.1.not_out))
-                ]
-            | inr off ↦
-                elim (is-bool (is_out y.newer)) [
-                  | inl out ↦ inl (s.nothing.coming ∙ s.no_more off out)
-                  | inr held ↦ inr (ap is_out same ∙ off, held)
-                ]
-          ]
-      | inr w ↦ inr (ap is_out same ∙ w.0, w.1.not_out)
+-- nothing of the older came
+none-of-older : (x y : LinkState FrameSend) → NoneIsBack send x y false x.older y.older → is_out y.older ≡ true → y.coming ≡ []
+none-of-older x y none on =
+    elim none.way [
+      | inl s ↦ s.nothing.coming ∙ s.no_more refl on
+      | inr (inl w) ↦ absurd (true≢false (sym on ∙ w.1.not_out))
+      | inr (inr h) ↦ absurd (true≢false (sym on ∙ h.not_out))
     ]
+
+-- nothing is back of either, so nothing is to come, or nothing is out; and nothing is here
+rests-none : (x u y : LinkState FrameSend) → NoneIsBack send x u false x.older u.older → NoneIsBack send u y (is_out u.older) u.newer y.newer → y.older ≡ u.older → NoneComes y
+rests-none x u y one two same = record {
+  older_not_here = ap is_here same ∙ one.not_here;
+  newer_not_here = two.not_here;
+  line =
+      elim two.way [
+        | inl s ↦
+            elim (is-bool (is_out u.older)) [
+              | inl on ↦ inl (s.nothing.coming ∙ none-of-older x u one on)
+              | inr off ↦
+                  elim (is-bool (is_out y.newer)) [
+                    | inl out ↦ inl (s.nothing.coming ∙ s.no_more off out)
+                    | inr held ↦ inr (ap is_out same ∙ off, held)
+                  ]
+            ]
+        | inr (inl w) ↦ inr (ap is_out same ∙ w.0, w.1.not_out)
+        | inr (inr h) ↦
+            elim (is-bool (is_out u.older)) [
+              | inl on ↦ inl (h.nothing.coming ∙ none-of-older x u one on)
+              | inr off ↦ inr (ap is_out same ∙ off, h.not_out)
+            ]
+      ];
+}
 
 kept-few : (l : LinkState FrameSend) → kept_of l ≤ 2
 kept-few l = omega (arith, one-kept (is_some l.older), one-kept (is_some l.newer))
@@ -100,9 +116,16 @@ none-out : (o : Option (AwayState FrameSend)) → one_if (is_some o) ≡ 0 → i
 none-out None is = refl
 none-out (Some a) is = absurd (omega (arith, is))
 
+none-here : (o : Option (AwayState FrameSend)) → one_if (is_some o) ≡ 0 → is_here o ≡ false
+none-here None is = refl
+none-here (Some a) is = absurd (omega (arith, is))
+
 rests-kept : (l : LinkState FrameSend) → kept_of l ≡ 0 → NoneComes l
-rests-kept l none =
-    inr (none-out l.older (omega (arith, none)), none-out l.newer (omega (arith, none)))
+rests-kept l none = record {
+  older_not_here = none-here l.older (omega (arith, none));
+  newer_not_here = none-here l.newer (omega (arith, none));
+  line = inr (none-out l.older (omega (arith, none)), none-out l.newer (omega (arith, none)));
+}
 
 grows-back : (l m : LinkState FrameSend) (o : Option (AwayState FrameSend)) (p : Option ShareState) (f : FinishedState) → IsBackOf l m o p f → Grows l m
 grows-back l m None p f back = elim back [ ]
@@ -163,18 +186,11 @@ one-older a b c f only = record {
   gave_all = λ is. absurd (true≢false is);
 }
 
--- nothing of the older came
-none-of-older : (x y : LinkState FrameSend) → NoneIsBack x y false x.older y.older → is_out y.older ≡ true → y.coming ≡ []
-none-of-older x y none on =
-    elim none.way [
-      | inl s ↦ s.nothing.coming ∙ s.no_more refl on
-      | inr w ↦ absurd (true≢false (sym on ∙ w.1.not_out))
-    ]
-
 -- where nothing comes, all was given
 gave-rest : (s : SlaveState) (ch : ChannelState) → NoneComes ch.link → GaveAll s ch
 gave-rest s ch rests = record {
-  older = λ on. elim rests [
+  older_not_here = rests.older_not_here;
+  older = λ on. elim rests.line [
     | inl empty ↦ empty
     | inr w ↦ absurd (true≢false (sym on ∙ w.0))
   ];
@@ -192,8 +208,10 @@ one-busy a b c only same busy newest = record {
   gave_all = λ is y now.
       let x = get_or a.channels c y in
       let at = was-there a.channels b.channels c y only.as_many now in
+      let none = ((only.here x y at now).none refl).1 in
       record {
-        older = none-of-older x.link y.link ((only.here x y at now).none refl).1;
+        older_not_here = none.not_here;
+        older = none-of-older x.link y.link none;
         newer = inr (busy, newest y now);
       };
 }
@@ -264,7 +282,7 @@ gathered : (end : TaskEndState FrameSend) (u v y : ChannelState) → u.link.came
 gathered end u v y before grows rests beside =
     let same : y.link.came ≡ v.link.came = ap (λ (ch : ChannelState). ch.link.came) beside.rest in
     let none : y.link.coming ≡ [] =
-    elim rests [
+    elim rests.line [
       | inl empty ↦ none-of y.link.coming (omega (
         arith,
         ap length beside.all,

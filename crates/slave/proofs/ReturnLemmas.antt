@@ -3,6 +3,7 @@ use Rattle.std.proofs.Common.{◌≡◌, ◌≢◌, ℕ, if◌then◌else◌, Bo
 use Rattle.std.specs.Prelude.{Option, Some, None, option_to_list}
 use Rattle.std.proofs.lemmas.Bool.Decides.{eqb_tells}
 use Rattle.frame_ring.specs.contracts.frame_left.FrameLeftRingEnd.TheImpl.{ghosts as ring}
+use Rattle.frame_ring.specs.contracts.frame_send.FrameSendSendEnd.TheImpl.{ghosts as send}
 use Rattle.frame_ring.specs.declared.frame_left.FrameLeft.{FrameLeft}
 use Rattle.frame_ring.specs.declared.frame_send.FrameSend.{FrameSend}
 use Rattle.copy_plan.specs.Config.{ListPlan}
@@ -33,11 +34,12 @@ ends-lost xs ys l more lost =
     ap ends_in more ∙ ends-append xs (l ∷ []) ∙ ap (λ o. ends_in xs ++ (option_to_list o ++ [])) lost ∙ append-nil (ends_in xs)
 
 -- nothing came back, or what came is that it was lost
-pub none-ends : (x y : LinkState FrameSend) (waits : Bool) (a b : Option (AwayState FrameSend)) → NoneIsBack x y waits a b → ends_in y.came ≡ ends_in x.came
+pub none-ends : (x y : LinkState FrameSend) (waits : Bool) (a b : Option (AwayState FrameSend)) → NoneIsBack send x y waits a b → ends_in y.came ≡ ends_in x.came
 none-ends x y waits a b none =
     elim none.way [
       | inl s ↦ ap ends_in s.nothing.came
-      | inr w ↦ ends-lost x.came y.came w.1.left w.1.came w.1.lost
+      | inr (inl (free, l)) ↦ ends-lost x.came y.came l.left l.came l.lost
+      | inr (inr h) ↦ ap ends_in h.nothing.came
     ]
 
 none-sent : (opening : Opening) → items opening [] [] ≡ []

@@ -1,9 +1,9 @@
 -- What came back of a measurement at an event channel of a slave.
-use Rattle.std.specs.Prelude.{◌≡◌, ◌⊎◌, ℕ, ◌+◌, ◌%◌, true, List, [], ◌∷◌, length}
+use Rattle.std.specs.Prelude.{◌≡◌, ◌⊎◌, ℕ, ◌+◌, ◌%◌, true, false, List, [], ◌∷◌, length}
 use Rattle.std.specs.Prelude.{Option, Some, IfSome, IsNone}
 use Rattle.sampler.specs.Past.{Past}
 use Rattle.slave_outbox.specs.Intakes.{StandsAfter}
-use Rattle.tasks.specs.Links.{is_out}
+use Rattle.tasks.specs.Links.{is_here, is_out}
 use Rattle.slave_channels.specs.Channels.{ChannelState, FinishedState, IsPastOf, number_of}
 use Rattle.slave.specs.Hearing.{GoesBy, NoneComes}
 use Rattle.slave.specs.Log.{Act, CameBack, deeds_of}
@@ -44,9 +44,10 @@ abbrev pub IsOfNewest : SlaveState → ChannelState → Type 0
 IsOfNewest s ch =
     (m : ℕ) → number_of ch.newer ≡ Some m → (m + 1) % 18446744073709551616 ≡ s.number
 
--- all that is known to have come back at an event channel was given back, but for what is left of
--- the newest measurement while lists run
+-- all that is here, or known to have come back, at an event channel was given back, but for what is
+-- left of the newest measurement while lists run
 pub record GaveAll (s : SlaveState) (ch : ChannelState) : Type 0 where
+  pub older_not_here : is_here ch.link.older ≡ false
   pub older : is_out ch.link.older ≡ true → ch.link.coming ≡ []
   pub newer : NoneComes ch.link ⊎ (Busy s.session × IsOfNewest s ch)
 

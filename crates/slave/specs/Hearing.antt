@@ -12,7 +12,7 @@ use Rattle.session.specs.Starts.{is_on, starts}
 use Rattle.session.specs.declared.profile.Profile.{Profile}
 use Rattle.slave_outbox.specs.Outboxes.{has_room}
 use Rattle.frame_ring.specs.declared.frame_send.FrameSend.{FrameSend}
-use Rattle.tasks.specs.Links.{CanStart, LinkState, is_out}
+use Rattle.tasks.specs.Links.{CanStart, LinkState, is_here, is_out}
 use Rattle.slave_channels.specs.Channels.{ChannelState, keeps_two, number_of}
 use Rattle.slave_channels.specs.Calls.{CanStartAll, rings_of}
 use Rattle.slave.specs.Log.{Act, CameBack, Discarded, Heard, HungUp, Opened, Refused, Sent, Took}
@@ -85,9 +85,13 @@ pub record StartsTooLong (d : Profile) (past : Past) (packet : List ℕ) : Type 
   pub starts_it : starts d past packet list ≡ true
   pub long : is_too_long d past list ≡ true
 
--- over the line with a task nothing is known to come, or nothing is out that could
-abbrev pub NoneComes : LinkState FrameSend → Type 0
-NoneComes link = (link.coming ≡ []) ⊎ ((is_out link.older ≡ false) × (is_out link.newer ≡ false))
+-- no sampler that was recalled is here; and over the line with a task nothing is known to come, or
+-- nothing is out that could
+pub record NoneComes (link : LinkState FrameSend) : Type 0 where
+  pub older_not_here : is_here link.older ≡ false
+  pub newer_not_here : is_here link.newer ≡ false
+  pub line :
+      (link.coming ≡ []) ⊎ ((is_out link.older ≡ false) × (is_out link.newer ≡ false))
 
 -- at an event channel of which a list is ready the parts of two measurements are kept
 pub record HasNoRoom (d : Profile) (past : Past) (s : SlaveState) : Type 0 where

@@ -3,6 +3,7 @@ use Rattle.std.proofs.Common.{◌≡◌, ◌/◌, ℕ, List, [], ◌∷◌, ◌+
 use Rattle.std.specs.Prelude.{slice_get, Option, Some, None, Result, Ok, Err, IsOk}
 use Rattle.std.proofs.lemmas.Bool.{false≢true}
 use Rattle.tasks.specs.declared.fault.HandFault.{HandFault}
+use Rattle.tasks.specs.declared.fault.HandFault.TheVariants.{Memory, NotEnded}
 use Rattle.std.specs.Option.{is_some}
 use mathlib.Core.List.{IsPrefix}
 use Rattle.std.proofs.lemmas.Option.{get_or_from_slice_get, none-some, slice_get_within}
@@ -32,7 +33,7 @@ use Rattle.sampler.specs.History.{Opening}
 use Rattle.tasks.specs.Links.{AnswersHandOut, HandsOut, LinkState, SendsToNewest, first_refusal, hand_refusal, takes_orders}
 use Rattle.channel_ring.specs.declared.order.Order.{Order}
 use Rattle.hand_over.specs.Newest.{one_before}
-use Rattle.slave_channels.specs.Channels.{ChannelState, FinishedState, Fits, IsBack, IsBackOf, IsFinished, IsOpeningBy, IsPartAt, IsShareOf, IsUnused, OpenedState, Opens, ShareState}
+use Rattle.slave_channels.specs.Channels.{AnswersOpen, ChannelState, FinishedState, Fits, IsBack, IsBackOf, IsFinished, IsOpeningBy, IsPartAt, IsShareOf, IsUnused, OpenedState, Opens, ShareState}
 use Rattle.slave_channels.specs.PartInner.{ComesOf, EndStays, FinishesAs}
 
 -- no deed changes what a channel was opened with
@@ -150,6 +151,21 @@ handed : (o : Option HandFault) (r : Result Unit (HandFault × SamplerState Fram
 handed None r done answers = refl
 handed (Some fault) (Ok u) done answers = elim answers [ ]
 handed (Some fault) (Err e) done answers = absurd (false≢true done)
+
+memory-other : ◌≡◌ {A = HandFault} Memory NotEnded → ⊥
+memory-other e = cc
+
+-- what an opening answers: out of memory, as the hand-out, or that it is done
+pub answers-memory : (o : Option HandFault) → AnswersOpen o (Err Memory)
+answers-memory None = memory-other
+answers-memory (Some fault) = inr refl
+
+pub answers-refused : (o : Option HandFault) (e : HandFault × SamplerState FrameSend) → AnswersHandOut o (Err e) → AnswersOpen o (Err e.0)
+answers-refused None e other = other
+answers-refused (Some fault) e same = inl same
+
+pub answers-done : (o : Option HandFault) (r : Result Unit (HandFault × SamplerState FrameSend)) → IsOk r → AnswersHandOut o r → AnswersOpen o (Ok tt)
+answers-done o r done answers = subst (λ x. AnswersOpen x (Ok tt)) (sym (handed o r done answers)) tt
 
 refuses-two : (b : Bool) → first_refusal b true ≡ None → ⊥
 refuses-two true e = cc

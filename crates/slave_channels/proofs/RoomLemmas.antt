@@ -2,7 +2,6 @@
 use Rattle.std.proofs.Common.{ℕ, zero, suc, ◌*◌, ◌+◌, ◌<◌, ◌≤◌, length, arith}
 use Rattle.xcp_base.specs.declared.limits.TheConstants.{MAX_ODTS_IN_ALL, MAX_PACKET}
 use Rattle.xcp_base.specs.Packets.{packet_len}
-use Rattle.channel_ring.specs.Making.{SampleLimit}
 use Rattle.copy_plan.specs.Config.{IsPlan, ListPlan, elements_len}
 use Rattle.copy_plan.specs.Frames.{frames_len, frames_upto}
 use Rattle.frame_ring.specs.Ends.{limit_of}

@@ -1,18 +1,21 @@
 -- What the calls of one measurement do at each of its event channels.
 use Rattle.std.specs.Prelude.{◌≡◌, ◌≢◌, ℕ, ◌<◌, ◌⊎◌, ◌&&◌, ◌++◌, true, false, List, []}
-use Rattle.std.specs.Prelude.{Option, None, Some, length, map}
+use Rattle.std.specs.Prelude.{Option, None, Some, Err, length, map}
 use Rattle.std.specs.Prelude.{IfSome, IsNone, IsSome, slice_get}
 use Rattle.xcp_base.specs.Lists.{has_list}
 use Rattle.xcp_base.specs.declared.limits.TheConstants.{MAX_LISTS}
 use Rattle.channel_ring.specs.Ends.{RingName}
+use Rattle.frame_ring.specs.contracts.frame_send.FrameSendSendEnd.TheImpl.{ghosts as send}
 use Rattle.frame_ring.specs.declared.frame_send.FrameSend.{FrameSend}
 use Rattle.slave_outbox.specs.declared.step.Step.{Step}
 use Rattle.daq_store.specs.Standing.{StoreState}
 use Rattle.slave_outbox.specs.Outboxes.{OutboxState}
 use Rattle.tasks.specs.Links.{CanStart, EndsNewest, LooksAtNewest, NoneIsBack, is_out, is_running}
-use Rattle.tasks.specs.Links.{takes_orders}
+use Rattle.tasks.specs.Links.{hand_refusal, takes_orders}
 use Rattle.tasks.specs.Tasks.{TaskEndState, TaskState, just_begun}
-use Rattle.slave_channels.specs.Channels.{ChannelState, FinishedState, IsBackOf, Opens, TakesOf}
+use Rattle.tasks.specs.declared.fault.HandFault.{HandFault}
+use Rattle.slave_channels.specs.Channels.{AnswersOpen, ChannelState, FinishedState, IsBackOf}
+use Rattle.slave_channels.specs.Channels.{Opens, TakesOf}
 use Rattle.slave_channels.specs.Channels.{keeps_part, keeps_two, keeps_within, no_measurement}
 use Rattle.slave_channels.specs.Channels.{number_of}
 use Rattle.slave_channels.specs.Ordering.{OrdersAll, starts_noted, starts_sent}
@@ -162,13 +165,24 @@ module _ (store : StoreState) (number : ℕ) (caps lists : List ℕ) where
       → (b ≡ a)
       ⊎ ((set ≢ 0) × ((m : ChannelState) × Opens a m store c cap number × Ends m b))
 
+-- at an event channel with some lists the measurement was refused with this fault
+pub record HasRefused (lists : List ℕ) (now : List ChannelState) (fault : HandFault)
+    : Type 0 where
+  pub channel : ℕ
+  pub set : ℕ
+  pub state : ChannelState
+  pub lists_are : slice_get lists channel ≡ Some set
+  pub some : set ≢ 0
+  pub state_is : slice_get now channel ≡ Some state
+  pub answers : AnswersOpen (hand_refusal state.link) (Err fault)
+
 -- what came back of the measurement before the last; the rest is as it was
 pub record GivesBackOlder (answer : Option FinishedState) (a b : ChannelState) : Type 0 where
   pub back : IfSome answer (IsBackOf a.link b.link a.link.older a.older)
   pub some : IsSome answer → (b.link.older ≡ None) × (b.older ≡ None)
   pub none :
       IsNone answer
-      → (b.older ≡ a.older) × NoneIsBack a.link b.link false a.link.older b.link.older
+      → (b.older ≡ a.older) × NoneIsBack send a.link b.link false a.link.older b.link.older
   pub link :
       b.link
       ≡ record a.link { came = b.link.came; coming = b.link.coming; older = b.link.older }
@@ -181,7 +195,7 @@ pub record GivesBackNewer (answer : Option FinishedState) (a b : ChannelState) :
   pub none :
       IsNone answer
       → (b.newer ≡ a.newer)
-      × NoneIsBack a.link b.link (is_out a.link.older) a.link.newer b.link.newer
+      × NoneIsBack send a.link b.link (is_out a.link.older) a.link.newer b.link.newer
   pub link :
       b.link
       ≡ record a.link { came = b.link.came; coming = b.link.coming; newer = b.link.newer }

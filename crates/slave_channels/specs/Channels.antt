@@ -1,7 +1,7 @@
 -- The slave's side of an event channel: the measurements whose samplers are out, and those that
 -- came back.
-use Rattle.std.specs.Prelude.{◌≡◌, ◌⊎◌, ◌&&◌, ◌||◌, ◌/◌, ℕ, Bool, List, [], All, Option, Some}
-use Rattle.std.specs.Prelude.{None, false, nat_le, nat_lt}
+use Rattle.std.specs.Prelude.{◌≡◌, ◌≢◌, ◌⊎◌, ◌&&◌, ◌||◌, ◌/◌, ℕ, Bool, List, [], All}
+use Rattle.std.specs.Prelude.{Option, Some, None, Result, Ok, Err, false, nat_le, nat_lt}
 use Rattle.std.specs.Option.{is_some}
 use mathlib.Core.List.{IsPrefix}
 use Rattle.copy_plan.specs.Config.{IsPlan}
@@ -32,6 +32,8 @@ use Rattle.slave_outbox.specs.Taking.{TakesItem}
 use Rattle.hand_over.specs.Newest.{one_before}
 use Rattle.tasks.specs.Links.{AwayState, CameBack, CameNext, HandsOut, LinkState, NothingCame}
 use Rattle.tasks.specs.Links.{SendsToNewest, just_linked}
+use Rattle.tasks.specs.declared.fault.HandFault.{HandFault}
+use Rattle.tasks.specs.declared.fault.HandFault.TheVariants.{Memory, NotEnded}
 use Rattle.channel_ring.specs.declared.order.Order.{Order}
 
 -- what an event channel's part of a measurement was opened with: the store as it was then, the
@@ -197,6 +199,14 @@ pub record Opens (a b : ChannelState) (s : StoreState) (c cap number : ℕ) : Ty
   pub stands : StandsAfter share.intake []
   pub older : b.older ≡ one_before a.older a.newer
   pub room : (a.older ≡ None) ⊎ (a.newer ≡ None)
+
+-- what an opening answers if the hand-out of its sampler is refused so. Before that, and behind it,
+-- there may be no memory; and if it isn't refused so, the task may be at the place
+abbrev pub AnswersOpen : Option HandFault → Result Unit HandFault → Type 0
+AnswersOpen (Some fault) (Ok done) = ⊥
+AnswersOpen (Some fault) (Err other) = (other ≡ fault) ⊎ (other ≡ Memory)
+AnswersOpen None (Ok done) = Unit {0}
+AnswersOpen None (Err other) = other ≢ NotEnded
 
 -- the newest part goes on with this deed
 abbrev pub NewestGoesOn : Option ShareState → Option ShareState → Deed → Type 0

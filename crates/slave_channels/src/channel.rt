@@ -101,11 +101,12 @@ fn finish(part: &mut Option<Share>, end: SamplerEnd<FrameLeft>) -> Option<Finish
 
 impl Channel {
     ghost use Rattle.std.specs.Option.{is_some};
-    ghost use Rattle.slave_channels.specs.Channels.{Opens, Orders, IsBackOf, keeps_part, keeps_two};
-    ghost use Rattle.slave_channels.specs.Channels.{keeps_within};
+    ghost use Rattle.frame_ring.specs.contracts.frame_send.FrameSendSendEnd.TheImpl.{ghosts as send};
+    ghost use Rattle.slave_channels.specs.Channels.{AnswersOpen, IsBackOf, Opens, Orders};
+    ghost use Rattle.slave_channels.specs.Channels.{keeps_part, keeps_two, keeps_within};
     ghost use Rattle.slave_channels.specs.Channels.{no_measurement, number_of};
-    ghost use Rattle.tasks.specs.Links.{CanStart, EndsNewest, LooksAtNewest, NoneIsBack, is_out};
-    ghost use Rattle.tasks.specs.Links.{is_running, takes_orders, without};
+    ghost use Rattle.tasks.specs.Links.{CanStart, EndsNewest, LooksAtNewest, NoneIsBack};
+    ghost use Rattle.tasks.specs.Links.{hand_refusal, is_out, is_running, takes_orders, without};
     ghost use Rattle.tasks.specs.Tasks.{just_begun};
     ghost use Rattle.channel_ring.specs.declared.order.Order.TheVariants.{Start, Stop};
 
@@ -137,6 +138,7 @@ impl Channel {
         cap: usize,
         number: u64,
     ) -> Result<(), HandFault>
+        ensures answer { AnswersOpen (hand_refusal self.old.link) result }
         ensures ok { OnOk result (Opens self.old self.new store.now c cap number) }
         ensures err { OnErr result (self.new ≡ self.old) }
     {
@@ -271,7 +273,7 @@ impl Channel {
             (IsBackOf self.old.link self.new.link self.old.link.older self.old.older) }
         ensures some { IsSome result → (self.new.link.older ≡ None) × (self.new.older ≡ None) }
         ensures none { IsNone result → (self.new.older ≡ self.old.older)
-            × NoneIsBack self.old.link self.new.link false
+            × NoneIsBack send self.old.link self.new.link false
             self.old.link.older self.new.link.older }
         ensures link { self.new.link
             ≡ record self.old.link {
@@ -291,7 +293,7 @@ impl Channel {
             (IsBackOf self.old.link self.new.link self.old.link.newer self.old.newer) }
         ensures some { IsSome result → (self.new.link.newer ≡ None) × (self.new.newer ≡ None) }
         ensures none { IsNone result → (self.new.newer ≡ self.old.newer)
-            × NoneIsBack self.old.link self.new.link (is_out self.old.link.older)
+            × NoneIsBack send self.old.link self.new.link (is_out self.old.link.older)
             self.old.link.newer self.new.link.newer }
         ensures link { self.new.link
             ≡ record self.old.link {

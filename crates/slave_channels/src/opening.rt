@@ -1,7 +1,9 @@
 //! A measurement is opened at all event channels that have lists of it, or at none.
-ghost use Rattle.std.specs.Prelude.{◌≡◌, ◌≢◌, ◌<◌, ◌≤◌, OnErr, OnOk, length, true, false};
-ghost use Rattle.slave_channels.specs.Channels.{keeps_two};
-ghost use Rattle.slave_channels.specs.Calls.{Ends, HasFull, HasSome, HaveRoom};
+ghost use Rattle.std.specs.Prelude.{◌≡◌, ◌≢◌, ◌<◌, ◌≤◌, IfErr, IsOk, OnErr, OnOk, Some, length};
+ghost use Rattle.std.specs.Prelude.{slice_get, true, false};
+ghost use Rattle.tasks.specs.Links.{hand_refusal};
+ghost use Rattle.slave_channels.specs.Channels.{AnswersOpen, ChannelState, keeps_two};
+ghost use Rattle.slave_channels.specs.Calls.{Ends, HasFull, HasSome, HaveRoom, HasRefused};
 ghost use Rattle.slave_channels.specs.Calls.{OpenedAndEnded, OpensAt, OpensIfAny};
 ghost use Rattle.slave_channels.specs.Each.{IsEach, IsOnlyAt};
 ghost use Rattle.slave_channels.specs.Inner.{EndsAt, IsFront};
@@ -24,6 +26,8 @@ fn open_one(
     set: ListSet,
     number: u64,
 ) -> Result<(), HandFault>
+    ensures answer { set ≢ 0 → AnswersOpen (hand_refusal channel.old.link) result }
+    ensures always { set ≡ 0 → IsOk result }
     ensures ok { OnOk result (OpensIfAny store.now number c cap set channel.old channel.new) }
     ensures err { OnErr result (channel.new ≡ channel.old) }
 {
@@ -89,6 +93,7 @@ impl Channels {
         requires lists { length lists.now ≡ length self.old }
         ensures ok { OnOk result
             (IsEach (OpensAt store.now number caps.now lists.now) self.old self.new) }
+        ensures refusal { IfErr result (HasRefused lists.now self.old) }
         ensures err { OnErr result
             (IsEach (OpenedAndEnded store.now number caps.now lists.now) self.old self.new) }
     {
@@ -112,6 +117,9 @@ impl Channels {
         number: u64,
     ) -> Result<(), HandFault>
         requires channel { c < length self.old }
+        ensures answer { (x : ChannelState) → slice_get self.old c ≡ Some x → set ≢ 0
+            → AnswersOpen (hand_refusal x.link) result }
+        ensures always { set ≡ 0 → IsOk result }
         ensures ok { OnOk result
             (IsOnlyAt (OpensIfAny store.now number c cap set) c self.old self.new) }
         ensures err { OnErr result (self.new ≡ self.old) }

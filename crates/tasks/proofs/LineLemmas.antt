@@ -1,7 +1,8 @@
 -- What is out on a line, behind each step of the slave.
 use Rattle.std.proofs.Common.{◌≡◌, ℕ, true, false, true≢false, if◌then◌else◌, List, [], ◌∷◌, ◌++◌, length, drop, append-nil, length-append, Option, Some, None, Result, Ok, Err, refl, sym, ap, ◌∙◌, subst, inl, inr, le_refl, arith, ◌&&◌}
 use Rattle.std.proofs.lemmas.List.{length-drop, map-append}
-use Rattle.std.specs.Prelude.{IfOk, IfSome, map, ◌⊎◌, ◌≤◌, Bool}
+use Rattle.std.proofs.lemmas.Option.{none-some}
+use Rattle.std.specs.Prelude.{IfOk, IfSome, IsErr, IsSome, map, ◌⊎◌, ◌≤◌, Bool}
 use Rattle.std.specs.Option.{is_some}
 use Rattle.channel_ring.specs.declared.ends.SendEnd.{Ghosts as SendGhosts}
 use Rattle.channel_ring.specs.declared.ends.RingEnd.{Ghosts as EndGhosts}
@@ -12,7 +13,7 @@ use Rattle.hand_over.specs.Newest.{one_before}
 use mathlib.Core.List.{IsPrefix}
 use Rattle.hand_over.specs.Lines.{LenderState}
 use Rattle.tasks.specs.Inner.{Comes, ComesOf, IsFinishedOf, IsTakenOf, Leaves, RecallsNewest, out_of}
-use Rattle.tasks.specs.Links.{AwayState, CameBack, ComesNext, EndsNewest, EndsUnordered, IsBackBy, LinkState, LooksAtNewest, LooksAtOrders, NoneIsBack, NothingCame, SendsToNewest, is_out, just_out}
+use Rattle.tasks.specs.Links.{AwayState, CameBack, ComesNext, EndsNewest, EndsUnordered, IsBackBy, LinkState, LooksAtNewest, LooksAtOrders, NoneIsBack, NothingCame, SendsToNewest, is_here, is_out, just_out}
 use Rattle.tasks.specs.Tasks.{HeldState}
 use Rattle.tasks.specs.Ways.{HasCome, IsLeftOf, LeavesBy, LeftState, left_of, seen_of}
 use Rattle.tasks.specs.declared.lost.Lost.{Lost}
@@ -177,6 +178,21 @@ module _ {S : Type 0} where
   }
   leaves-looks None (Some b) is = elim is [ ]
   leaves-looks (Some a) None is = elim is [ ]
+
+  -- what was kept still is
+  pub some-after : {P : AwayState S → Type 0} (o p : Option (AwayState S)) → Leaves o p
+      → (a : AwayState S) × (o ≡ Some a) × P a → IsSome p
+  some-after None p leaves (a, is, there) = absurd (none-some a is)
+  some-after (Some x) (Some y) leaves it = refl
+  some-after (Some x) None leaves it = elim leaves [ ]
+
+  -- the older stays where it is
+  pub older-recalled : (a b : LinkState S) → (b ≡ a) ⊎ RecallsNewest a b
+      → is_out b.older ≡ is_out a.older
+  older-recalled a b recalls = elim recalls [
+    | inl same ↦ ap (λ (l : LinkState S). is_out l.older) same
+    | inr r ↦ ap (λ (l : LinkState S). is_out l.older) r.rest
+  ]
 
   pub recalled-looks : (a b : LinkState S) → RecallsNewest a b → LooksAtNewest a.newer b.newer
   recalled-looks a b r =
@@ -392,11 +408,12 @@ module _ {S E : Type 0} (send : SendGhosts S E) (ring : EndGhosts E) where
     pub lost-by : (waits : Bool) (o p q : Option (AwayState S)) (lost : Lost)
         → (waits ≡ true → x.came ≡ y.came) → Leaves o p
         → (a : AwayState S) × (o ≡ Some a) × Comes send ring x y a left → left.0 ≡ Err lost
-        → LooksAtNewest p q → is_out q ≡ false → NoneIsBack x z waits o q
-    lost-by waits o p q lost waiting leaves (a, is, comes) none looks not_out = record {
+        → LooksAtNewest p q → is_out q ≡ false → is_here q ≡ false → NoneIsBack send x z waits o q
+    lost-by waits o p q lost waiting leaves (a, is, comes) none looks not_out not_here = record {
       looked = looks-twice o p q (leaves-looks o p leaves) looks;
+      not_here = not_here;
       way = elim comes.way [
-        | inl n ↦ inr (
+        | inl n ↦ inr (inl (
           waits-not waits x.came y.came (left_of ring left) n.came waiting,
           record {
             not_out = not_out;
@@ -405,24 +422,31 @@ module _ {S E : Type 0} (send : SendGhosts S E) (ring : EndGhosts E) where
             came = (next-more a (left_of ring left) n).came;
             known = (next-more a (left_of ring left) n).known;
           },
-        )
-        | inr w ↦ inl (record {
+        ))
+        | inr w ↦ inr (inr (record {
           nothing = none-more w.1;
-          no_more = λ _ out. absurd (true≢false (sym out ∙ not_out));
-        })
+          not_out = not_out;
+          away = a;
+          was = is;
+          lost = w.0.lost (subst (λ (r : Result (SamplerEndState E) Lost). IsErr r) (sym none) refl);
+        }))
       ];
     }
 
   -- nothing came
   pub none-by : (x y : LinkState S) (waits : Bool) (o : Option (AwayState S)) → y ≡ x
-      → (waits ≡ false → is_out o ≡ true → x.coming ≡ []) → NoneIsBack x y waits o o
-  none-by x y waits o same no_more = record {
+      → is_here o ≡ false → (waits ≡ false → is_out o ≡ true → x.coming ≡ [])
+      → NoneIsBack send x y waits o o
+  none-by x y waits o same not_here no_more = record {
     looked = looks-same o;
+    not_here = not_here;
     way = inl (record {
       nothing = record {
         came = ap (λ (l : LinkState S). l.came) same;
         coming = ap (λ (l : LinkState S). l.coming) same;
       };
+      not_here = not_here;
+      stays = refl;
       no_more = no_more;
     });
   }
@@ -481,26 +505,41 @@ module _ {S E : Type 0} (send : SendGhosts S E) (ring : EndGhosts E) where
     ]
 
     pub none-recalled : (z : LinkState S) (waits : Bool) (q : Option (AwayState S))
-        → NoneIsBack x z waits x.newer q → NoneIsBack w z waits w.newer q
-    none-recalled z waits q none = record {
-      looked = looks-twice w.newer x.newer q recalled-looked none.looked;
-      way = elim none.way [
-        | inl s ↦ inl (record {
-          nothing = record {
-            came = s.nothing.came ∙ recalled-nothing.came;
-            coming = s.nothing.coming ∙ recalled-nothing.coming;
-          };
-          no_more = λ free out. sym recalled-nothing.coming ∙ s.no_more free out;
-        })
-        | inr (free, l) ↦ inr (
-          free,
+        → NoneIsBack send x z waits x.newer q → NoneIsBack send w z waits w.newer q
+    none-recalled z waits q none = elim recalls [
+      | inl same ↦ subst (λ (l : LinkState S). NoneIsBack send l z waits l.newer q) same none
+      | inr r ↦
+          let now : x.newer ≡ Some (record r.before { out = false; here = true }) =
+          ap (λ (l : LinkState S). l.newer) r.rest in
           record {
-            not_out = l.not_out;
-            left = l.left;
-            lost = l.lost;
-            came = l.came ∙ ap (λ xs. xs ++ l.left ∷ []) recalled-nothing.came;
-            known = subst (λ xs. IsPrefix xs (l.left ∷ z.coming)) recalled-nothing.coming l.known;
-          },
-        )
-      ];
-    }
+            looked = looks-twice w.newer x.newer q recalled-looked none.looked;
+            not_here = none.not_here;
+            way = elim none.way [
+              | inl s ↦ absurd (true≢false (sym (ap is_here now) ∙ s.not_here))
+              | inr (inl (free, l)) ↦ inr (inl (
+                free,
+                record {
+                  not_out = l.not_out;
+                  left = l.left;
+                  lost = l.lost;
+                  came = l.came ∙ ap (λ xs. xs ++ l.left ∷ []) recalled-nothing.came;
+                  known = subst (λ xs. IsPrefix xs (l.left ∷ z.coming)) recalled-nothing.coming l.known;
+                },
+              ))
+              | inr (inr h) ↦ inr (inr (record {
+                nothing = record {
+                  came = h.nothing.came ∙ recalled-nothing.came;
+                  coming = h.nothing.coming ∙ recalled-nothing.coming;
+                };
+                not_out = h.not_out;
+                away = r.before;
+                was = r.was;
+                lost =
+                    subst (λ (k : SamplerState S). send.is_lost k.end)
+                    (ap (λ (k : AwayState S). k.sampler)
+                    (some-same h.away (record r.before { out = false; here = true }) (sym h.was ∙ now)))
+                    h.lost;
+              }))
+            ];
+          }
+    ]

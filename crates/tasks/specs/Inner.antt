@@ -1,6 +1,6 @@
 -- What no public clause cites: what a task and the slave's side of it know of their line.
 use Rattle.std.specs.Prelude.{◌≡◌, ℕ, ◌⊎◌, true, false, if◌then◌else◌, List, [], ◌∷◌, ◌++◌}
-use Rattle.std.specs.Prelude.{length, Option, Some, None, Result, Ok, IfOk}
+use Rattle.std.specs.Prelude.{length, Option, Some, None, Result, Ok, IfOk, IsErr}
 use mathlib.Core.List.{IsPrefix}
 use Rattle.channel_ring.specs.declared.ends.SendEnd.{Ghosts as SendGhosts}
 use Rattle.channel_ring.specs.declared.ends.RingEnd.{Ghosts as EndGhosts}
@@ -69,6 +69,7 @@ module _ {S E : Type 0} (send : SendGhosts S E) (ring : EndGhosts E) where
     pub not_out : a.out ≡ false
     pub orders : left.1 ≡ a.went
     pub end : IfOk left.0 (IsLeftOf send ring a.sampler)
+    pub lost : IsErr left.0 → send.is_lost a.sampler.end
 
   -- this is left of a sampler that was out, and came over the line next
   pub record IsNextOver

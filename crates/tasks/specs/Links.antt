@@ -121,6 +121,11 @@ module _ {S : Type 0} where
   is_out None = false
   is_out (Some a) = a.out
 
+  -- whether it was recalled, and is here
+  abbrev pub is_here : Option (AwayState S) → Bool
+  is_here None = false
+  is_here (Some a) = a.here
+
   -- the measurement ended with no order: its sampler was recalled, and is here
   abbrev pub EndsHere : AwayState S → AwayState S → Type 0
   EndsHere a b = b ≡ record a { ended = true; out = false; here = true }
@@ -202,10 +207,13 @@ module _ {S : Type 0} where
     pub came : y.came ≡ x.came
     pub coming : y.coming ≡ x.coming
 
-  -- nothing came, and nothing is known to come of what is kept, unless it has to wait
-  pub record StaysOut (x y : LinkState S) (waits : Bool) (b : Option (AwayState S))
+  -- what is kept is where it was, and not here; nothing came, and nothing is known to come of it,
+  -- unless it has to wait
+  pub record StaysOut (x y : LinkState S) (waits : Bool) (a b : Option (AwayState S))
       : Type 0 where
     pub nothing : NothingCame x y
+    pub not_here : is_here a ≡ false
+    pub stays : is_out b ≡ is_out a
     pub no_more : waits ≡ false → is_out b ≡ true → x.coming ≡ []
 
   -- what came is that it was lost
@@ -217,12 +225,23 @@ module _ {S : Type 0} where
     pub came : y.came ≡ x.came ++ left ∷ []
     pub known : IsPrefix x.coming (left ∷ y.coming)
 
-  -- of what was kept as `a` and is kept as `b` nothing is back; where it has to wait for another
-  -- one, nothing came
+module _ {S E : Type 0} (send : SendGhosts S E) where
+  -- it was recalled, now or before, and finished: it was lost
+  pub record IsLostHere (x y : LinkState S) (a b : Option (AwayState S)) : Type 0 where
+    pub nothing : NothingCame x y
+    pub not_out : is_out b ≡ false
+    pub away : AwayState S
+    pub was : a ≡ Some away
+    pub lost : send.is_lost away.sampler.end
+
+  -- of what was kept as `a` and is kept as `b` nothing is back, and it isn't here; where it has to
+  -- wait for another one, nothing came
   pub record NoneIsBack (x y : LinkState S) (waits : Bool) (a b : Option (AwayState S))
       : Type 0 where
     pub looked : LooksAtNewest a b
-    pub way : StaysOut x y waits b ⊎ ((waits ≡ false) × IsLost x y b)
+    pub not_here : is_here b ≡ false
+    pub way :
+        StaysOut x y waits a b ⊎ (((waits ≡ false) × IsLost x y b) ⊎ IsLostHere x y a b)
 
 module _ {S E : Type 0} (send : SendGhosts S E) (ring : EndGhosts E) where
   -- this came next over the line

@@ -21,7 +21,7 @@ impl<S: SendEnd> Model for Handed<S> {
 }
 
 impl<S: SendEnd> Handed<S> {
-    ghost use Rattle.std.specs.Prelude.{◌≡◌, IfOk};
+    ghost use Rattle.std.specs.Prelude.{◌≡◌, IfOk, IsErr};
     ghost use Rattle.segments.specs.Memory.{parts};
     ghost use Rattle.tasks.specs.Tasks.{ObeysNext, TriggersSampler};
     ghost use Rattle.tasks.specs.Ways.{IsLeftOf};
@@ -66,6 +66,7 @@ impl<S: SendEnd> Handed<S> {
     /// Finishes the sampler: what is left of it.
     pub fn finish(self) -> Left<S>
         ensures left { IfOk result.0 (IsLeftOf S.SendEnd S.End.RingEnd self.sampler) }
+        ensures lost { IsErr result.0 → S.is_lost self.sampler.end }
         ensures orders { result.1 ≡ self.orders }
     {
         let Handed { sampler, orders } = self;

@@ -55,8 +55,8 @@ ghost use Rattle.tasks.specs.Inner.{Comes, ComesOf, IsFinishedOf, IsNextOver, Is
 ghost use Rattle.tasks.specs.Inner.{Leaves, RecallsNewest, out_of};
 ghost use Rattle.tasks.specs.Links.{AnswersHandOut, AwayState, CanStart, EndsNewest, HandsOut};
 ghost use Rattle.tasks.specs.Links.{IsBackBy, LooksAtNewest, NoneIsBack, SendsToNewest};
-ghost use Rattle.tasks.specs.Links.{hand_refusal, is_out, is_running, just_linked, just_out};
-ghost use Rattle.tasks.specs.Links.{takes_orders, without};
+ghost use Rattle.tasks.specs.Links.{hand_refusal, is_here, is_out, is_running, just_linked};
+ghost use Rattle.tasks.specs.Links.{just_out, takes_orders, without};
 ghost use Rattle.tasks.specs.Tasks.{HeldState, just_begun};
 ghost use Rattle.tasks.specs.Ways.{LeavesBy};
 ghost use Rattle.tasks.specs.declared.lost.Lost.{Lost};
@@ -200,6 +200,7 @@ fn finished_of<S: SendEnd>(away: &mut Option<Away<S>>) -> Option<Left<S>>
     ensures some { IfSome result (λ left. (a : AwayState S) × (away.old ≡ Some a)
         × IsFinishedOf S.SendEnd S.End.RingEnd a left) }
     ensures none { IsNone result → away.new ≡ away.old }
+    ensures not_here { is_here away.new ≡ false }
     ensures leaves { Leaves away.old away.new }
     ensures out_stays { out_of away.new ≡ out_of away.old }
 {
@@ -220,6 +221,7 @@ fn arrived_of<S: SendEnd>(line: &mut SlaveLine<S>, away: &mut Option<Away<S>>) -
         → line.new.out ≡ out_of away.new ++ more }
     ensures leaves { Leaves away.old away.new }
     ensures not_out { IsSome result → is_out away.new ≡ false }
+    ensures here_stays { is_here away.new ≡ is_here away.old }
     ensures ring_stays { line.new.ring ≡ line.old.ring }
 {
     let Some(away) = away else {
@@ -245,6 +247,7 @@ fn bring<S: SendEnd>(line: &mut SlaveLine<S>, away: &mut Option<Away<S>>) -> Opt
         → line.new.out ≡ out_of away.new ++ more }
     ensures leaves { Leaves away.old away.new }
     ensures not_out { IsSome result → is_out away.new ≡ false }
+    ensures not_here { is_here away.new ≡ false }
     ensures ring_stays { line.new.ring ≡ line.old.ring }
 {
     if let Some(left) = finished_of(away) {
@@ -265,6 +268,7 @@ fn taken_of<S: SendEnd>(
     ensures lost { IsNone result → IsSome away.old → (lost : Lost) × (left.0 ≡ Err lost) }
     ensures looked { LooksAtNewest away.old away.new }
     ensures out_stays { is_out away.new ≡ is_out away.old }
+    ensures here_stays { is_here away.new ≡ is_here away.old }
 {
     match away {
         Some(away) => away.take(left),
@@ -287,6 +291,7 @@ fn back_of<S: SendEnd>(
     ensures some { IsSome result → away.new ≡ None }
     ensures none { IsNone result → LooksAtNewest away.old away.new }
     ensures out { is_out away.new ≡ false }
+    ensures not_here { is_here away.old ≡ false → is_here away.new ≡ false }
 {
     let back = taken_of(away, left)?;
     *away = None;
@@ -449,7 +454,7 @@ impl<S: SendEnd> TaskLink<S> {
             × IsBackBy S.SendEnd S.End.RingEnd self.old self.new a back.0 back.1) }
         ensures some { IsSome result → self.new.older ≡ None }
         ensures none { IsNone result
-            → NoneIsBack self.old self.new false self.old.older self.new.older }
+            → NoneIsBack S.SendEnd self.old self.new false self.old.older self.new.older }
         ensures rest_stays { self.new
             ≡ record self.old {
               came = self.new.came;
@@ -469,7 +474,8 @@ impl<S: SendEnd> TaskLink<S> {
             × IsBackBy S.SendEnd S.End.RingEnd self.old self.new a back.0 back.1) }
         ensures some { IsSome result → self.new.newer ≡ None }
         ensures none { IsNone result
-            → NoneIsBack self.old self.new (is_out self.old.older) self.old.newer self.new.newer }
+            → NoneIsBack S.SendEnd self.old self.new (is_out self.old.older)
+            self.old.newer self.new.newer }
         ensures rest_stays { self.new
             ≡ record self.old {
               came = self.new.came;
@@ -501,6 +507,7 @@ impl<S: SendEnd> TaskLink<S> {
         ensures no_more { IsNone result → is_out self.old.older ≡ true → self.old.coming ≡ [] }
         ensures leaves { Leaves self.old.older self.new.older }
         ensures not_out { IsSome result → is_out self.new.older ≡ false }
+        ensures not_here { is_here self.new.older ≡ false }
         ensures rest_stays { self.new
             ≡ record self.old {
               came = self.new.came;
@@ -521,6 +528,7 @@ impl<S: SendEnd> TaskLink<S> {
         ensures waits { is_out self.old.older ≡ true → self.old.came ≡ self.new.came }
         ensures leaves { Leaves self.old.newer self.new.newer }
         ensures not_out { IsSome result → is_out self.new.newer ≡ false }
+        ensures not_here { is_here self.new.newer ≡ false }
         ensures rest_stays { self.new
             ≡ record self.old {
               came = self.new.came;

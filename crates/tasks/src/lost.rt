@@ -1,5 +1,5 @@
 //! A sampler is finished, or nothing is left of it since its ring is gone.
-ghost use Rattle.std.specs.Prelude.{IfOk};
+ghost use Rattle.std.specs.Prelude.{IfOk, IsErr};
 ghost use Rattle.tasks.specs.Ways.{IsLeftOf};
 
 use channel_ring::SendEnd;
@@ -15,6 +15,7 @@ pub struct Lost {
 /// Finishes a sampler.
 pub(crate) fn finish<S: SendEnd>(sampler: Sampler<S>) -> Result<SamplerEnd<S::End>, Lost>
     ensures left { IfOk result (IsLeftOf S.SendEnd S.End.RingEnd sampler) }
+    ensures lost { IsErr result → S.is_lost sampler.end }
 {
     match sampler.finish() {
         Some(end) => Ok(end),

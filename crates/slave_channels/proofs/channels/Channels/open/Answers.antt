@@ -1,8 +1,10 @@
-use Rattle.std.proofs.Common.{◌≡◌, ◌<◌, ◌≤◌, arith, get_or, length, subst, ◌∙◌}
+use Rattle.std.proofs.Common.{◌≡◌, ◌≢◌, ◌<◌, ◌≤◌, ℕ, zero, suc, List, [], ◌∷◌, arith, get_or, length, refl, subst, ◌∙◌}
+use Rattle.std.specs.Prelude.{Some, slice_get}
+use Rattle.std.proofs.lemmas.Bool.{false≢true}
 use Rattle.std.proofs.lemmas.Grind.{get_or_default_zero}
 use Rattle.slave_channels.specs.Calls.{OpensAt, OpensIfAny}
 use Rattle.slave_channels.specs.Each.{IsOnlyAt}
-use Rattle.slave_channels.proofs.EachLemmas.{front-all, front-only}
+use Rattle.slave_channels.proofs.EachLemmas.{front-all, front-only, read_at}
 use Rattle.slave_channels.proofs.CallLemmas.{opened-ended, opens-at}
 use Rattle.slave_channels.proofs.channels.Channels.open.Goals as goal
 
@@ -11,6 +13,28 @@ pub returns-in-Err-clause-err : goal.returns-in-Err-clause-err
 returns-in-Err-clause-err c =
     opened-ended c.args.store.now c.args.number c.args.caps.now c.args.lists.now c.loop-c.c _ c.loop-c.self _ _
     c.in-Err.ensures.err c.loop-c.invariant c.end_below.ensures.ends
+
+some-there : {A : Type 0} (xs : List A) (c : ℕ) → c < length xs → (x : A) × (slice_get xs c ≡ Some x)
+some-there [] c here = absurd (omega (arith, here))
+some-there (x ∷ xs) zero here = (x, refl)
+some-there (x ∷ xs) (suc c) here = some-there xs c (omega (arith, here))
+
+-- the one that was refused is as it was
+pub returns-in-Err-clause-refusal : goal.returns-in-Err-clause-refusal
+returns-in-Err-clause-refusal c =
+    let here : c.loop-c.c < length c.args.self.now = omega (arith, c.loop-c-test.true, c.loop-c.auto.c-end, c.len-c-end.ensures.value) in
+    let within : c.loop-c.c < length c.args.lists.now = omega (arith, here, c.requires.lists) in
+    let there = some-there c.args.self.now c.loop-c.c here in
+    let some : c.index-lists-c.result ≢ 0 = λ e. false≢true (c.in-Err.ensures.always e) in
+    record {
+      channel = c.loop-c.c;
+      set = c.index-lists-c.result;
+      state = there.0;
+      lists_are = read_at c.args.lists.now c.loop-c.c c.index-lists-c.result c.index-lists-c.is within;
+      some = some;
+      state_is = there.1;
+      answers = c.in-Err.ensures.answer there.0 (c.loop-c.invariant.rest c.loop-c.c (omega arith) ∙ there.1) some;
+    }
 
 -- one channel more
 pub loop-c-preserved : goal.loop-c-preserved

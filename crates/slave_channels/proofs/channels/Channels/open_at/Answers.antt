@@ -1,7 +1,22 @@
-use Rattle.std.proofs.Common.{◌∙◌}
+use Rattle.std.proofs.Common.{◌≡◌, ◌<◌, ◌∙◌, List, ap, length, subst, sym}
+use Rattle.std.specs.Prelude.{slice_get}
+use Rattle.std.proofs.lemmas.Option.{same_Some}
+use Rattle.tasks.specs.Links.{hand_refusal}
+use Rattle.slave_channels.specs.Channels.{AnswersOpen, ChannelState}
 use Rattle.daq_engine.proofs.AskingLemmas.{on_err, on_ok}
-use Rattle.slave_channels.proofs.EachLemmas.{only-set, set_back}
+use Rattle.slave_channels.proofs.EachLemmas.{only-set, read_at, set_back}
 use Rattle.slave_channels.proofs.channels.Channels.open_at.Goals as goal
+
+-- it is that channel
+pub returns-clause-answer : goal.returns-clause-answer
+returns-clause-answer c x at some =
+    let v = c.self.view_is in
+    let old = c.index_mut-channel.result.now in
+    let here : c.args.c < length c.self.inside.all.items = subst (λ (xs : List ChannelState). c.args.c < length xs) (sym v) c.requires.channel in
+    let same : old ≡ x =
+    same_Some old x
+    (sym (read_at c.self.inside.all.items c.args.c old c.index_mut-channel.ensures.value here) ∙ ap (λ (xs : List ChannelState). slice_get xs c.args.c) v ∙ at) in
+    subst (λ (y : ChannelState). AnswersOpen (hand_refusal y.link) c.open_one.result) same (c.open_one.ensures.answer some)
 
 -- only that channel was opened
 pub returns-clause-ok : goal.returns-clause-ok
