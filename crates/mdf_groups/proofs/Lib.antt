@@ -4,3 +4,5 @@ pub mod RecordLemmas
 pub mod IntegerLemmas
 pub mod LawLemmas
 pub mod ChannelLemmas
+pub mod TimeLemmas
+pub mod SecondsLemmas

@@ -1,15 +1,20 @@
--- What MDF finds in the records of a group.
-use Rattle.std.specs.Prelude.{◌≡◌, ℕ, ◌+◌, ◌<◌, List, All, length, slice_get, slice_range}
-use Rattle.std.specs.Prelude.{Some}
+-- What MDF finds in the records of a group, and their times.
+use Rattle.std.specs.Prelude.{◌≡◌, ℕ, ◌+◌, ◌^◌, ◌≤◌, ◌<◌, FitsSigned, false, List, All}
+use Rattle.std.specs.Prelude.{length, slice_get, slice_range, Some}
+use Rattle.std.specs.Float.{Float, NotNan}
+use Rattle.std.specs.Float.Ieee.{lt}
+use Rattle.std.specs.Int.{w8}
 use Rattle.measured_values.specs.Encodings.{size_of}
 use Rattle.measured_values.specs.Raws.{raw_value}
 use Rattle.measured_values.specs.declared.raw.Raw.{Raw}
+use Rattle.measured_values.specs.declared.tick.Tick.{Tick}
 use Rattle.mdf_blocks.specs.Told.{ToldChannel}
 use Rattle.mdf_blocks.specs.ValuePlaces.{raw_at_place}
 use Rattle.mdf_blocks.specs.declared.value_place.ValuePlace.{ValuePlace}
 use Rattle.mdf_groups.specs.Channels.{AreChannels, front_names}
 use Rattle.mdf_groups.specs.Places.{ArePlaced, ColumnLiesIn, encoding_of}
 use Rattle.mdf_groups.specs.Records.{FormOf, IsTimeFor, record_len, record_of}
+use Rattle.mdf_groups.specs.Times.{risen, seconds_of}
 use Rattle.mdf_groups.specs.declared.placed_column.PlacedColumn.{PlacedColumn}
 use Rattle.mdf_groups.specs.declared.record_time.RecordTime.{RecordTime}
 
@@ -59,3 +64,18 @@ HaveOneLength =
     → length sample ≡ form.sample_bytes
     → length (record_of form.own at mark sample)
     ≡ record_len form.front form.sample_bytes (length form.own)
+
+-- of two counts of ticks, the later one is never shown earlier: no rounding puts it in front
+abbrev pub SecondsNeverFall : Type 0
+SecondsNeverFall =
+    (tick : Tick) (m n : ℕ) → m ≤ n → lt (seconds_of n tick) (seconds_of m tick) ≡ false
+
+-- a count of 64 bits of ticks, however long these are, is shown as a number
+abbrev pub SecondsAreNumbers : Type 0
+SecondsAreNumbers =
+    (tick : Tick) (n : ℕ) → n < 2 ^ 64 → tick.mantissa < 2 ^ 32 → FitsSigned w8 tick.exponent
+    → NotNan (seconds_of n tick)
+
+-- the time of a sample is never less than the one before
+abbrev pub RisenNeverFalls : Type 0
+RisenNeverFalls = (last now : Float) → lt (risen last now) last ≡ false
