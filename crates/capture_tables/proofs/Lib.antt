@@ -1,2 +1,3 @@
 pub mod ClockLemmas
+pub mod FileListLemmas
 pub mod PlaceLemmas

@@ -1,3 +1,4 @@
 pub mod CaptureTimes
 pub mod Clocks
+pub mod FileLists
 pub mod Places

@@ -1,6 +1,6 @@
 -- Where the bytes of a value stand in the samples of a DAQ list.
 use Rattle.std.specs.Prelude.{◌≡◌, ℕ, ◌+◌, ◌-◌, ◌==◌, ◌&&◌, nat_le, Bool, true, false}
-use Rattle.std.specs.Prelude.{List, [], ◌∷◌, ◌++◌, Option, None, Some, option_map}
+use Rattle.std.specs.Prelude.{List, ◌∷◌, ◌++◌, Option, None, Some, option_map}
 use Rattle.std.specs.List.{flat_map, list_any}
 use Rattle.captured_samples.specs.Places.{size_of}
 use Rattle.captured_session.specs.Lists.{ListOf}

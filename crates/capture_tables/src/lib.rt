@@ -11,6 +11,7 @@ mod element_rows;
 mod element_survey;
 mod file_clock;
 mod file_lists;
+mod list_groups;
 mod list_table;
 mod passed;
 mod row_text;
