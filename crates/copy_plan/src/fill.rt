@@ -19,8 +19,8 @@ use xcp_base::{MemoryView, Packets};
 
 impl CopyPlan {
     /// The packets of a sample, one for each ODT in their order, all from one image and one
-    /// timestamp, which only a stamped list uses; `overload` sets the overload indication. They find
-    /// room in a value of fixed size.
+    /// timestamp, which only a stamped list uses; `overload` sets the overload indication. They
+    /// find room in a value of fixed size.
     pub fn fill(&self, image: &[u8], stamp: u32, overload: bool) -> Packets
         requires image { length image.now ≡ image_len self.now.segments }
         requires by_value { IsByValue self.now }

@@ -16,7 +16,8 @@ pub struct Limits {
     pub odts: u8,
     /// The most entries of one ODT.
     pub entries: u8,
-    /// MAX_DTO: the longest packet, in bytes; outside of `MIN_DTO` to `MAX_PACKET` no store is made.
+    /// MAX_DTO: the longest packet, in bytes; outside of `MIN_DTO` to `MAX_PACKET` no store is
+    /// made.
     pub max_dto: u16,
 }
 
@@ -33,8 +34,8 @@ impl Limits {
         }
     }
 
-    /// Those of a slave that a master connects to: 16 event channels, 124 ODTs, 255 entries, packets
-    /// of so many bytes.
+    /// Those of a slave that a master connects to: 16 event channels, 124 ODTs, 255 entries,
+    /// packets of so many bytes.
     pub fn of_slaves(max_dto: u16) -> Limits
         ensures { result ≡ slave_limits max_dto }
     {

@@ -64,8 +64,8 @@ impl Store {
         self.form.stamp.bytes()
     }
 
-    /// Whether the samples of each list find room in a value of fixed size, as in a run: no list has
-    /// more than `MAX_ODTS` ODTs, and no packet more than `MAX_DTO` bytes.
+    /// Whether the samples of each list find room in a value of fixed size, as in a run: no list
+    /// has more than `MAX_ODTS` ODTs, and no packet more than `MAX_DTO` bytes.
     pub fn is_by_value(&self) -> bool
         ensures { result ≡ is_by_value self.now.profile }
     {

@@ -63,9 +63,9 @@ impl FrameTake {
         Some(head)
     }
 
-    /// Takes the first item: its record, which has so many blocks, goes into a page, from a block of
-    /// it on. It takes no memory. The page comes back; it is handed over by value, since through a
-    /// borrow the place of the ring's blocks would be read anew for each of them.
+    /// Takes the first item: its record, which has so many blocks, goes into a page, from a block
+    /// of it on. It takes no memory. The page comes back; it is handed over by value, since through
+    /// a borrow the place of the ring's blocks would be read anew for each of them.
     pub fn take_into(&mut self, page: Vec<Block>, at: usize, blocks: usize) -> Vec<Block>
         requires some { 0 < length (take_state self.old).known }
         requires size { blocks ≡ head_blocks (head_of (take_state self.old).front) }

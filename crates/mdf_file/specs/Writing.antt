@@ -9,7 +9,8 @@ use Rattle.mdf_blocks.specs.declared.file_state.FileState.TheVariants.{Unfinishe
 use Rattle.mdf_file.specs.Ending.{told_file}
 use Rattle.mdf_file.specs.declared.about.About.{About}
 use Rattle.mdf_file.specs.declared.mdf_fault.MdfFault.{MdfFault}
-use Rattle.mdf_file.specs.declared.mdf_fault.MdfFault.TheVariants.{NoGroup, NoRecordBytes, PartOfRecord}
+use Rattle.mdf_file.specs.declared.mdf_fault.MdfFault.TheVariants.{NoGroup, NoRecordBytes}
+use Rattle.mdf_file.specs.declared.mdf_fault.MdfFault.TheVariants.{PartOfRecord}
 
 -- a group, with its records, the oldest in front
 pub record WrittenGroup : Type 0 where

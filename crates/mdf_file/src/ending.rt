@@ -1,4 +1,5 @@
-//! What ends a file whose records come one after another: behind blocks of records stand the groups.
+//! What ends a file whose records come one after another: behind blocks of records stand the
+//! groups.
 ghost use Rattle.std.specs.Prelude.{◌≡◌, ◌+◌, ◌%◌, ◌++◌, List, ℕ, IfOk, length};
 ghost use Rattle.std.specs.Prelude.{[], ◌≤◌, codes};
 ghost use Rattle.mdf_blocks.specs.Blocks.{IsBlockAt};

@@ -50,7 +50,8 @@ impl OpenGroup {
     /// One record more, in the buffer.
     pub fn push(&mut self, record: &[u8]) -> Result<(), MdfFault>
         ensures told { self.new.told ≡ self.old.told }
-        ensures buffer { OnOk result (self.new.buffer.items ≡ self.old.buffer.items ++ «record».now) }
+        ensures buffer { OnOk result
+            (self.new.buffer.items ≡ self.old.buffer.items ++ «record».now) }
         ensures records { OnOk result
             (self.new.log.records ≡ self.old.log.records ++ «record».now ∷ []) }
         ensures err { OnErr result (self.new.log.records ≡ self.old.log.records) }

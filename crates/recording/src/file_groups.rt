@@ -21,8 +21,8 @@ pub fn add_lists<O: MdfOut + Drop>(
     shapes: &[ListShape],
 ) -> Result<(), GroupFault>
     requires none { (file.old.forms ≡ []) × (file.old.file.groups ≡ []) }
-    ensures groups { OnOk result (HaveGroups values.entry.tick values.entry.columns.now shapes.now []
-        file.new.forms file.new.file.groups) }
+    ensures groups { OnOk result (HaveGroups values.entry.tick values.entry.columns.now
+        shapes.now [] file.new.forms file.new.file.groups) }
     ensures about { OnOk result (file.new.file.about ≡ file.old.file.about) }
     ensures unfinished { OnOk result
         (KeepsUnfinished file.old.file.bytes file.new.file.bytes) }

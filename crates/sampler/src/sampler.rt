@@ -86,8 +86,8 @@ impl<S: SendEnd> Sampler<S> {
     /// A sampler of an event channel for images of `image_len` bytes.
     ///
     /// `plans` are those of the channel's DAQ lists, in rising list number; `running` is the set of
-    /// the lists that run; `end` is a send end through which nothing was sent, and which takes their
-    /// samples.
+    /// the lists that run; `end` is a send end through which nothing was sent, and which takes
+    /// their samples.
     pub fn new(
         channel: u8,
         plans: Vec<CopyPlan>,

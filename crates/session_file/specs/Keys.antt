@@ -5,7 +5,8 @@ use Rattle.toml.specs.Data.{Data, Items, no_items, item, Members, no_members, me
 use Rattle.toml.specs.Data.{as_array, as_str}
 use Rattle.xcp_base.specs.declared.id_kind.IdKind.{IdKind}
 use Rattle.xcp_base.specs.declared.stamp_size.StampSize.{StampSize}
-use Rattle.xcp_base.specs.declared.limits.TheConstants.{MAX_CTO, MAX_PACKET, MAX_UNIT, MIN_CTO, MIN_DTO}
+use Rattle.xcp_base.specs.declared.limits.TheConstants.{MAX_CTO, MAX_PACKET, MAX_UNIT, MIN_CTO}
+use Rattle.xcp_base.specs.declared.limits.TheConstants.{MIN_DTO}
 use Rattle.run_file.specs.Keys.{at_key, id_of, image_len_of, is_among, number_in, stamp_of}
 use Rattle.run_file.specs.Keys.{texts_at}
 use Rattle.session_file.specs.declared.limits.TheConstants.{MAX_LINES, USUAL_PACKET}

@@ -3,7 +3,8 @@ ghost use Rattle.std.specs.Prelude.{◌≡◌, ◌<◌, IfErr, OnErr, OnOk, leng
 ghost use Rattle.xcp_base.specs.declared.limits.TheConstants.{MAX_CHANNELS};
 ghost use Rattle.slave.specs.Hearing.{most_before};
 ghost use Rattle.slave.specs.Inner.{AllCame, AreJustOut, AreSets, Busy, HasRoom, Idle};
-ghost use Rattle.slave.specs.Inner.{IsPlaceRefusal, IsRefusedAt, IsSetOn, LooksAtAll, OpensAll, OpensInVain};
+ghost use Rattle.slave.specs.Inner.{IsPlaceRefusal, IsRefusedAt, IsSetOn, LooksAtAll, OpensAll};
+ghost use Rattle.slave.specs.Inner.{OpensInVain};
 ghost use Rattle.slave.specs.Inner.{NoneIsTooLong, OpensNone, Prepares};
 ghost use Rattle.slave.specs.Inner.{StartsInVain, StartsLists, WantsRoom};
 ghost use Rattle.slave.specs.Pages.{page_over};

@@ -91,7 +91,8 @@ fn let_go(page: &mut FramePage<Origin>, shown: Front, len: usize)
 
 impl Outbox {
     ghost use Rattle.std.specs.Prelude.{◌≡◌, ℕ, ◌<◌, ◌≤◌, ◌++◌, [], ◌∷◌, List, true, false};
-    ghost use Rattle.std.specs.Prelude.{IfOk, OnErr, OnOk, Some, not, drop, length, slice_get, take};
+    ghost use Rattle.std.specs.Prelude.{IfOk, OnErr, OnOk, Some, not, drop, length, slice_get};
+    ghost use Rattle.std.specs.Prelude.{take};
     ghost use Rattle.frame_writer.specs.Frame.{text};
     ghost use Rattle.xcp_base.specs.declared.limits.TheConstants.{MAX_CTO};
     ghost use Rattle.slave_outbox.specs.Outboxes.{Laid, LaysOut, Shows, StandsAfter, bytes_in};

@@ -84,8 +84,8 @@ size_of bytes =
     else if bytes == 2 then Some Two
     else if bytes == 4 then Some Four else None
 
--- the form with this identification field, timestamps of so many bytes and this MAX_DTO, if there is
--- one
+-- the form with this identification field, timestamps of so many bytes and this MAX_DTO, if there
+-- is one
 abbrev pub form_with : IdKind → ℕ → ℕ → Option PacketForm
 form_with id bytes max_dto =
     option_map (λ size. record { id = id; stamp = size; max_dto = max_dto }) (size_of bytes)

@@ -435,8 +435,8 @@ fn tick_in(matches: &ArgMatches<'_>, why: &mut Why) -> Result<Option<Tick>, Prog
     }
 }
 
-/// How the samples are shown; a table where no mode is asked for. What goes to a measurement file is
-/// what CSV has.
+/// How the samples are shown; a table where no mode is asked for. What goes to a measurement file
+/// is what CSV has.
 fn mode_of(matches: &ArgMatches<'_>) -> Mode {
     if matches.get_flag("csv") || matches.get_str("mf4").is_some() {
         return Mode::Csv;
