@@ -58,7 +58,7 @@ impl<O: MdfOut + Drop> FileLists<O> {
         })
     }
 
-    /// The next set-up of a list. On an error the file may have a group more that no list has.
+    /// The next set-up of a list. On an error the file may have groups more that no list has.
     pub fn add(&mut self, list: &CapturedList, columns: &[Column<'_>]) -> Result<(), GroupFault>
         ensures ok { OnOk result (AddsList self.old self.new list.now columns.now) }
         ensures not_failed { OnOk result (self.old.file.file.failed ≡ None) }
