@@ -84,9 +84,10 @@ pub record HasGroup (tick : Option Tick) (columns : List Column) (plans : List L
     (earlier : List (ℕ × Recorded)) (place : ℕ) (plan : ListPlan) (forms : List FormOf)
     (groups : List WrittenGroup)
     : Type 0 where
-  -- fixed by `is`
+  -- fixed by `has_form`
   pub form : FormOf
   pub has_form : slice_get forms place ≡ Some form
+  -- fixed by `there`
   pub group : WrittenGroup
   pub there : slice_get groups place ≡ Some group
   pub is : IsGroupOf tick columns plans earlier place plan form group
