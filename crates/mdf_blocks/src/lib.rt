@@ -4,8 +4,6 @@
 mod axis;
 mod bit_run;
 mod block;
-#[cfg(test)]
-mod block_tests;
 mod channel;
 mod channel_body;
 mod channel_group;
@@ -23,12 +21,8 @@ mod fixed_blocks;
 mod id_bytes;
 pub mod laws;
 mod listed_data;
-#[cfg(test)]
-mod place_tests;
 mod placed_text;
 mod rule;
-#[cfg(test)]
-mod rule_tests;
 mod rules;
 mod table_places;
 mod texts;
@@ -36,8 +30,6 @@ mod time;
 mod time_bytes;
 mod value_format;
 mod value_place;
-#[cfg(test)]
-mod worked_bytes;
 mod zone;
 
 pub use axis::Axis;

@@ -7,8 +7,6 @@ mod conversions;
 mod data_out;
 mod ending;
 mod ends;
-#[cfg(test)]
-mod file_tests;
 mod groups;
 mod history;
 mod limits;
@@ -27,14 +25,11 @@ mod seek_out;
 mod streamed_group;
 mod texts;
 mod told_groups;
-#[cfg(test)]
-mod worked_file;
-#[cfg(test)]
-mod writer_tests;
 
 pub use about::About;
 pub use ending::{data_bytes, file_end};
 pub use ends::FileEnd;
+pub use limits::Limits;
 pub use mdf_fault::MdfFault;
 pub use mdf_out::MdfOut;
 pub use mdf_writer::MdfWriter;

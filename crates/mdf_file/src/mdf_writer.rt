@@ -61,7 +61,7 @@ impl<O: MdfOut + Drop> MdfWriter<O> {
     }
 
     /// The same, with other limits of what waits in memory.
-    pub(crate) fn with_limits(
+    pub fn with_limits(
         alloc: Global,
         about: About,
         out: O,

@@ -10,11 +10,7 @@ mod front_channels;
 mod group_channels;
 mod group_fault;
 mod group_file;
-#[cfg(test)]
-mod group_file_tests;
 pub mod laws;
-#[cfg(test)]
-mod mdf_groups_tests;
 mod names;
 mod naming;
 mod own_value;

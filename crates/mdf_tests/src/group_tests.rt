@@ -1,12 +1,12 @@
 //! Records and channels against bytes and places that are worked out from the format.
 ghost use Rattle.std.specs.Prelude.{◌≡◌, IfOk, length};
 
-use crate::{
+use mdf_blocks::{Axis, ChannelKind, ConversionKind, ValueFormat};
+use mdf_file::NewChannel;
+use mdf_groups::{
     FormFault, Front, PlacedColumn, RecordFault, RecordForm, RecordTime, channels_of, is_lost,
     risen, seconds_of,
 };
-use mdf_blocks::{Axis, ChannelKind, ConversionKind, ValueFormat};
-use mdf_file::NewChannel;
 use measured_values::{
     BitOperation, ByteOrder, Conversion, DataType, Encoding, TextRow, TextTable, Tick, ValueLimits,
 };

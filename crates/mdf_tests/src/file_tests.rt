@@ -1,7 +1,7 @@
 //! A small file against the bytes that the format's tables say.
 use crate::worked_file::FILE;
-use crate::{About, MdfFault, NewChannel, NewConversion, StreamedGroup, data_bytes, file_end};
 use mdf_blocks::{Axis, ChannelKind, ConversionKind, ListedData, Time, ValueFormat, Zone};
+use mdf_file::{About, MdfFault, NewChannel, NewConversion, StreamedGroup, data_bytes, file_end};
 use measured_values::{ByteOrder, ValueLimits};
 use std::alloc::{AllocError, Global};
 use std::process::Abort;

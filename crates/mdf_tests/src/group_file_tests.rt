@@ -1,10 +1,10 @@
 //! Samples in a measurement file, and what the file is told by.
-use crate::mdf_groups_tests::{RECORD, SAMPLE, columns};
-use crate::{
-    FormFault, Front, GroupFault, GroupFile, PlacedColumn, RecordFault, RecordTime, group_name,
-};
+use crate::group_tests::{RECORD, SAMPLE, columns};
 use mdf_blocks::{Time, Zone};
 use mdf_file::{About, MdfFault, MemoryOut};
+use mdf_groups::{
+    FormFault, Front, GroupFault, GroupFile, PlacedColumn, RecordFault, RecordTime, group_name,
+};
 use std::alloc::{AllocError, Global};
 use std::test::Fail;
 

@@ -1,5 +1,5 @@
 //! Conversions against the rules that MDF has for them.
-use crate::{PlacedText, Rule, bounds_of, keys_of, rule_of};
+use mdf_blocks::{PlacedText, Rule, bounds_of, keys_of, rule_of};
 use measured_values::{Conversion, TextRow, TextTable};
 use std::alloc::{AllocError, Global};
 use std::process::Abort;

@@ -2,9 +2,8 @@
 ghost use Rattle.std.specs.Prelude.{◌≡◌, [], IfSome, None};
 
 use crate::file_tests::{COMMENT, LATER, QUARTERS, START, speed, state, time};
-use crate::limits::Limits;
 use crate::worked_file::FILE;
-use crate::{About, MdfFault, MdfOut, MdfWriter, MemoryOut, NewChannel, SeekOut};
+use mdf_file::{About, Limits, MdfFault, MdfOut, MdfWriter, MemoryOut, NewChannel, SeekOut};
 use std::alloc::{AllocError, Global};
 use std::io::{self, Cursor};
 use std::process::Abort;

@@ -1,9 +1,10 @@
 //! Blocks against the bytes that the format's tables say.
-use crate::{
+use crate::worked_bytes as worked;
+use mdf_blocks::{
     Axis, Channel, ChannelGroup, ChannelKind, ConversionKind, DataGroup, FileHeader, FileHistory,
     FileState, ListedData, Time, ValueFormat, Zone, data_head, identification, push_channel,
     push_channel_group, push_comment, push_conversion, push_data_group, push_data_list,
-    push_file_header, push_file_history, push_text, worked_bytes as worked,
+    push_file_header, push_file_history, push_text,
 };
 use measured_values::{ByteOrder, ValueLimits};
 use std::alloc::{AllocError, Global};

@@ -1,5 +1,5 @@
 //! Encodings against the places where MDF finds their values.
-use crate::{ValueFormat, ValuePlace, place_in_record};
+use mdf_blocks::{ValueFormat, ValuePlace, place_in_record};
 use measured_values::{BitOperation, ByteOrder, DataType, Encoding};
 use std::process::Abort;
 
