@@ -52,14 +52,14 @@ fn shown(packet: Captured<'_>) -> Shown {
 fn packet_at(alloc: Global, file: &[u8], place: usize) -> Result<Shown, (usize, usize)> {
     let mut reader = CaptureReader::new(alloc);
     let mut rest = file;
-    let mut at = 0;
+    let mut at: usize = 0;
     for _ in 0..16 {
         match reader.next(rest) {
             Ok(Step::Packet(taken, packet)) => {
                 if at == place {
                     return Ok(shown(packet));
                 }
-                at += 1;
+                at = at.saturating_add(1);
                 rest = &rest[taken..];
             }
             Ok(Step::Passed(taken)) => rest = &rest[taken..],
