@@ -18,10 +18,10 @@ def nanoseconds(seconds):
     return int(whole + part.ljust(9, "0"))
 
 
-def samples():
-    """The rows of each sample."""
+def samples(text):
+    """The rows of each sample, of the lines of a text."""
     rows, before = [], None
-    for row in csv.DictReader(sys.stdin):
+    for row in csv.DictReader(text):
         place = (row["list"], row["sample"])
         here = (int(row["odt"]), int(row["entry"]))
         if rows and (place != before[0] or here <= before[1]):
@@ -33,16 +33,21 @@ def samples():
         yield rows
 
 
+def line_of(rows):
+    """The line of a sample."""
+    words = [rows[0]["list"], rows[0]["overload"], rows[0]["ticks"] or "-"]
+    return " ".join(words + [f"{row['extension']}:{int(row['address']):08x}:{row['hex']}" for row in rows])
+
+
 def main():
-    for rows in samples():
+    for rows in samples(sys.stdin):
         if "--seconds" in sys.argv:
             print(*{row["time [s]"] for row in rows})
             continue
         if "--times" in sys.argv:
             print(*{nanoseconds(row["capture [s]"]) for row in rows})
             continue
-        words = [rows[0]["list"], rows[0]["overload"], rows[0]["ticks"] or "-"]
-        print(*words, *(f"{row['extension']}:{int(row['address']):08x}:{row['hex']}" for row in rows))
+        print(line_of(rows))
 
 
 if __name__ == "__main__":

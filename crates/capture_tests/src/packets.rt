@@ -1,8 +1,8 @@
-//! Packets of captures in both formats and both byte orders.
+//! What no program shows of a capture's packets: how long they were, how their times are told, and
+//! how many bytes are wanted next.
 use crate::same::same;
-use crate::shown::{next_packet, shown};
-use capture::CaptureReader;
-use std::test::Fail;
+use capture::{CaptureReader, Captured, Step};
+use std::alloc::Global;
 
 /// A file of libpcap in microseconds, least significant byte first: 3 of 4 bytes at 1.000002 s.
 const MICROSECONDS: [u8; 43] = [
@@ -27,56 +27,96 @@ const SECTION: [u8; 144] = [
     0, 0, 20, 0, 0, 0, 9, 0, 0, 0, 0xAA, 0xBB, 0, 0, 20, 0, 0, 0,
 ];
 
-#[test]
-fn a_file_of_libpcap_gives_its_packets(rt: HostRuntime) -> Result<(), Fail> {
-    let mut reader = CaptureReader::new(rt.alloc());
-    let Some((packet, rest)) = next_packet(&mut reader, &MICROSECONDS) else {
-        return Err(Fail::from("a packet that isn't there"));
+/// The header of a file of libpcap, most significant byte first, and a record of 3 bytes, of which
+/// 2 are there.
+const RECORD: [u8; 42] = [
+    0xA1, 0xB2, 0xC3, 0xD4, 0, 2, 0, 4, 0, 0, 0, 0, 0, 0, 0, 0, 0, 0, 0xFF, 0xFF, 0, 0, 0, 1, 0, 0,
+    0, 0, 0, 0, 0, 0, 0, 0, 0, 3, 0, 0, 0, 3, 0xAA, 0xBB,
+];
+
+/// What is shown of a packet: its link type, its ticks, resolution and offset, how many bytes it
+/// had, and how many were kept.
+type Shown = (u16, Option<(u64, u8, i64)>, u32, usize);
+
+/// What is shown of a packet.
+fn shown(packet: Captured<'_>) -> Shown {
+    let time = match packet.time {
+        Some(time) => Some((time.ticks, time.resolution, time.offset)),
+        None => None,
     };
-    let row = "microseconds";
-    same(
-        &rt,
-        shown(packet),
-        (1, Some((1_000_002, 6, 0)), 4, 3),
-        row,
-        "packet",
-    );
-    same(&rt, packet.bytes, &MICROSECONDS[40..], row, "bytes");
-    same(&rt, rest.len(), 0, row, "bytes left");
-    let mut reader = CaptureReader::new(rt.alloc());
-    let Some((packet, _)) = next_packet(&mut reader, &NANOSECONDS) else {
-        return Err(Fail::from("a packet that isn't there"));
-    };
-    let row = "nanoseconds";
-    same(
-        &rt,
-        shown(packet),
-        (101, Some((1_000_000_002, 9, 0)), 1, 1),
-        row,
-        "packet",
-    );
-    Ok(())
+    (packet.link, time, packet.original, packet.bytes.len())
+}
+
+/// What is shown of the packet at a place in a file, from 0, or else how many bytes were taken, and
+/// how many are wanted.
+fn packet_at(alloc: Global, file: &[u8], place: usize) -> Result<Shown, (usize, usize)> {
+    let mut reader = CaptureReader::new(alloc);
+    let mut rest = file;
+    let mut at: usize = 0;
+    for _ in 0..16 {
+        match reader.next(rest) {
+            Ok(Step::Packet(taken, packet)) => {
+                if at == place {
+                    return Ok(shown(packet));
+                }
+                at = at.saturating_add(1);
+                rest = &rest[taken..];
+            }
+            Ok(Step::Passed(taken)) => rest = &rest[taken..],
+            Ok(Step::Wants(least)) => return Err((file.len().saturating_sub(rest.len()), least)),
+            Err(_) => break,
+        }
+    }
+    Err((0, 0))
 }
 
 #[test]
-fn a_section_of_pcapng_gives_its_packets(rt: HostRuntime) -> Result<(), Fail> {
-    let mut reader = CaptureReader::new(rt.alloc());
-    let Some((packet, rest)) = next_packet(&mut reader, &SECTION) else {
-        return Err(Fail::from("a packet that isn't there"));
-    };
-    let row = "enhanced packet block";
-    same(
-        &rt,
-        shown(packet),
-        (1, Some((4_294_967_298, 9, -1)), 4, 3),
-        row,
-        "packet",
-    );
-    same(&rt, packet.bytes, &[0xAA, 0xBB, 0xCC], row, "bytes");
-    let Some((packet, _)) = next_packet(&mut reader, rest) else {
-        return Err(Fail::from("a packet that isn't there"));
-    };
-    let row = "simple packet block, cut to 2 bytes";
-    same(&rt, shown(packet), (1, None, 9, 2), row, "packet");
-    Ok(())
+fn packets_are_told_and_bytes_wanted(rt: HostRuntime) {
+    let rows: [(&[u8], usize, Result<Shown, (usize, usize)>, &str); 11] = [
+        (
+            &MICROSECONDS,
+            0,
+            Ok((1, Some((1_000_002, 6, 0)), 4, 3)),
+            "microseconds",
+        ),
+        (
+            &MICROSECONDS,
+            1,
+            Err((43, 16)),
+            "microseconds, nothing left",
+        ),
+        (
+            &NANOSECONDS,
+            0,
+            Ok((101, Some((1_000_000_002, 9, 0)), 1, 1)),
+            "nanoseconds",
+        ),
+        (
+            &SECTION,
+            0,
+            Ok((1, Some((4_294_967_298, 9, -1)), 4, 3)),
+            "enhanced packet block",
+        ),
+        (
+            &SECTION,
+            1,
+            Ok((1, None, 9, 2)),
+            "simple packet block, cut to 2 bytes",
+        ),
+        (&RECORD[..0], 0, Err((0, 12)), "nothing"),
+        (&RECORD[..11], 0, Err((0, 12)), "11 bytes"),
+        (&RECORD[..12], 0, Err((0, 24)), "12 bytes"),
+        (&RECORD[..23], 0, Err((0, 24)), "23 bytes"),
+        (&RECORD[..24], 0, Err((24, 16)), "the header"),
+        (
+            &RECORD,
+            0,
+            Err((24, 19)),
+            "a record of 3 bytes, of which 2 are there",
+        ),
+    ];
+    for (file, place, wanted, row) in rows {
+        let packet = packet_at(rt.alloc(), file, place);
+        same(&rt, packet, wanted, row, "packet");
+    }
 }
