@@ -28,6 +28,8 @@ mod orders_between;
 #[cfg(test)]
 mod same;
 #[cfg(test)]
+mod spans_copied;
+#[cfg(test)]
 mod stores;
 #[cfg(test)]
 mod texts;

@@ -44,35 +44,37 @@ fn serve(alloc: Global, slave: &mut Slave, task: &mut Task<FrameSend>) -> Result
 {
     let mut master = MasterStream::new(slave);
     let mut sent = String::new(alloc);
-
-    // each reply waits until it is sent
-    hear(alloc, slave, &mut master, CONNECT, 0, &[])?;
-    send(slave, &mut sent)?;
+    answer(alloc, slave, &mut master, CONNECT, 0, &[], &mut sent)?;
     // what is read without a DAQ list is read off the memory that is handed in
-    hear(
+    let memory = image(1990, 85);
+    answer(
         alloc,
         slave,
         &mut master,
         READ_SPEED,
         0,
-        &[&image(1990, 85)],
+        &[&memory],
+        &mut sent,
     )?;
-    send(slave, &mut sent)?;
-    hear(alloc, slave, &mut master, SET_UP, 0, &[])?;
-    send(slave, &mut sent)?;
+    answer(alloc, slave, &mut master, SET_UP, 0, &[], &mut sent)?;
+    measure(slave, task, &mut sent)?;
+    // all lists stop; the reply is still sent
+    answer(alloc, slave, &mut master, DISCONNECT, 400, &[], &mut sent)?;
+    Ok(sent)
+}
 
-    // the ring has room for two samples: the third is dropped, and the one behind it says so
+/// Triggers the event channel four times, with the memory as it is then, and sends the samples. The
+/// ring has room for two of them: the third is dropped, and the one behind it says so.
+fn measure(slave: &mut Slave, task: &mut Task<FrameSend>, sent: &mut String) -> Result<()>
+    ensures lines { OnOk result (KeepsLines slave.old slave.new) }
+    ensures line { OnOk result (task.new.ring ≡ task.old.ring) }
+{
     task.trigger(&[&image(2000, 85)], 100)?;
     task.trigger(&[&image(2010, 85)], 200)?;
     task.trigger(&[&image(2020, 86)], 300)?;
-    send(slave, &mut sent)?;
+    send(slave, sent)?;
     task.trigger(&[&image(2030, 86)], 400)?;
-    send(slave, &mut sent)?;
-
-    // all lists stop; the reply is still sent
-    hear(alloc, slave, &mut master, DISCONNECT, 400, &[])?;
-    send(slave, &mut sent)?;
-    Ok(sent)
+    send(slave, sent)
 }
 
 /// A slave with one event channel, and the task of that.
@@ -89,14 +91,15 @@ fn open(alloc: Global) -> Result<(Slave, Task<FrameSend>)>
     Ok((slave, task))
 }
 
-/// The slave hears what came over the master's stream, with the memory as it is then.
-fn hear(
+/// The slave hears what came over the master's stream, with the memory as it is then, and answers.
+fn answer(
     alloc: Global,
     slave: &mut Slave,
     master: &mut MasterStream,
     bytes: &[u8],
     clock: u32,
     memory: &[&[u8]],
+    sent: &mut String,
 ) -> Result<()>
     ensures lines { OnOk result (KeepsLines slave.old slave.new) }
 {
@@ -104,7 +107,7 @@ fn hear(
     if taken < bytes.len() {
         bail!("there is no room for the replies");
     }
-    Ok(())
+    send(slave, sent)
 }
 
 /// Sends what waits, as one datagram: here it is written in hexadecimal.

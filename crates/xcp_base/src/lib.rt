@@ -16,8 +16,6 @@ mod packet_iter;
 mod packets;
 mod per_list;
 mod put;
-#[cfg(test)]
-mod put_tests;
 mod ring_kind;
 mod sample;
 mod stamp_size;

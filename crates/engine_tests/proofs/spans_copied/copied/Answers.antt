@@ -3,7 +3,7 @@ use Rattle.std.specs.Prelude.{All, slice_range}
 use Rattle.std.proofs.Math.Seq.{take-length}
 use Rattle.std.proofs.lemmas.List.{length-take}
 use Rattle.xcp_base.specs.Copied.{IsSpanAt, copied_at}
-use Rattle.xcp_base.proofs.put_tests.copied.Goals as goal
+use Rattle.engine_tests.proofs.spans_copied.copied.Goals as goal
 
 -- spans copy no more than so many bytes each
 room_for : (n : ℕ) (bytes offsets : List ℕ) → length (copied_at bytes n offsets) ≤ length offsets * n
@@ -21,11 +21,11 @@ fits n bytes offsets few =
     omega (arith, all, few)
 
 -- they lie in the segment
-pub put_packet-end-requires-clause-inside : goal.put_packet-end-requires-clause-inside
-put_packet-end-requires-clause-inside c =
+pub put_copied-end-requires-clause-inside : goal.put_copied-end-requires-clause-inside
+put_copied-end-requires-clause-inside c =
     let inside = c.are_inside.ensures.inside c.if-not-are_inside.false in
     (subst (All (IsSpanAt 32 c.args.size)) (sym (take-length c.args.offsets.now)) inside, tt)
 
-pub put_packet-end-requires-clause-room : goal.put_packet-end-requires-clause-room
-put_packet-end-requires-clause-room c =
+pub put_copied-end-requires-clause-room : goal.put_copied-end-requires-clause-room
+put_copied-end-requires-clause-room c =
     fits c.args.size _ c.args.offsets.now (c.are_inside.ensures.room c.if-not-are_inside.false)

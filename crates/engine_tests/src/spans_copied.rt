@@ -2,11 +2,9 @@
 ghost use Rattle.std.specs.Prelude.{◌≡◌, ◌*◌, ◌≤◌, All, length, true};
 ghost use Rattle.xcp_base.specs.Copied.{IsSpanAt};
 
-use crate::memory_view::MemoryView;
-use crate::put::put_packet;
-use crate::stretch::Stretch;
 use std::process::Abort;
 use std::test::Fail;
+use xcp_base::{MemoryView, Stretch, put_copied};
 
 /// A segment that begins at 100 in an image of all memory.
 const SEGMENT: [u8; 32] = [
@@ -111,7 +109,7 @@ fn copied(offsets: &[u32], size: usize) -> Result<(usize, [u8; 48]), Fail> {
     };
     let mut cells = [0xFF; 48];
     let memory = MemoryView::Parts(&[&SEGMENT]);
-    let end = put_packet(&mut cells, 2, &[], &[], memory, offsets, &[stretch]);
+    let end = put_copied(&mut cells, 2, memory, offsets, &[stretch]);
     Ok((end, cells))
 }
 

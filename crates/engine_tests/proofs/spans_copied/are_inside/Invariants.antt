@@ -1,6 +1,6 @@
 use Rattle.std.proofs.Common.{ℕ, ◌<◌, get_or}
 use Rattle.xcp_base.specs.Copied.{IsSpanAt}
-use Rattle.xcp_base.proofs.put_tests.are_inside.Given as goal
+use Rattle.engine_tests.proofs.spans_copied.are_inside.Given as goal
 
 -- the spans so far are so
 abbrev pub invariant-loop-offset : goal.invariant-loop-offset
