@@ -13,6 +13,7 @@ use crate::engine::{image, profile};
 use anyhow::{Result, bail};
 use frame_ring::FrameSend;
 use slave::{MasterStream, Slave};
+use slave_channels::Account;
 use std::alloc::Global;
 use tasks::Task;
 use xcp_base::ListId;
@@ -21,14 +22,9 @@ fn main(rt: HostRuntime) -> Result<()> {
     let alloc = rt.alloc();
     let (mut slave, mut task) = open(alloc)?;
     let sent = serve(alloc, &mut slave, &mut task)?;
+    let account = close(alloc, slave, task)?;
     print!(rt; "{sent}")?;
-
-    // what the task still holds comes back, and is in the account
-    let closed = slave.close(vec![in alloc; task.finish()]?);
-    if !closed.is_whole {
-        bail!("a measurement did not come back");
-    }
-    let line = closed.account.line(ListId::at(0));
+    let line = account.line(ListId::at(0));
     println!(rt;
         "list {}: {} due, {} written, {} dropped, {} left",
         line.list, line.due, line.written, line.dropped, line.left
@@ -82,13 +78,22 @@ fn open(alloc: Global) -> Result<(Slave, Task<FrameSend>)>
     ensures one { IfOk result (λ made. rings_of made.0.channels ≡ made.1.ring ∷ []) }
 {
     let (slave, mut tasks) = Slave::open(alloc, profile(alloc)?)?;
-    let Some(task) = tasks.pop() else {
-        bail!("there is no event channel");
-    };
-    if !tasks.is_empty() {
-        bail!("there is more than one event channel");
+    match (tasks.pop(), tasks.is_empty()) {
+        (Some(task), true) => Ok((slave, task)),
+        _ => bail!("there isn't just one event channel"),
     }
-    Ok((slave, task))
+}
+
+/// Closes the slave: what the task still holds comes back, and is in the account.
+fn close(alloc: Global, slave: Slave, task: Task<FrameSend>) -> Result<Account>
+    requires one { rings_of slave.channels ≡ task.ring ∷ [] }
+{
+    let ends = vec![in alloc; task.finish()]?;
+    let closed = slave.close(ends);
+    if !closed.is_whole {
+        bail!("a measurement did not come back");
+    }
+    Ok(closed.account)
 }
 
 /// The slave hears what came over the master's stream, with the memory as it is then, and answers.

@@ -6,7 +6,7 @@ use Rattle.first_slave.proofs.open.Goals as goal
 -- the one task is on the one line
 pub returns : goal.returns
 returns c =
-    let popped = c.in-Some.ensures in
-    let none : vec_len c.pop.new.self ≡ 0 = grind (arith, nat_tests, c.is_empty.ensures, c.if-not-is_empty.false) in
+    let popped = c.in-Some-true.ensures in
+    let none : vec_len c.pop.new.self ≡ 0 = grind (arith, nat_tests, c.in-Some-true.ensures') in
     let one : vec_len c.in_ok-slave.tasks ≡ 1 = omega (arith, none, popped.cases) in
-    record { one = one_ring _ c.in_ok-slave.tasks.items c.pop.new.self.items c.in-Some.task _ c.in_ok-slave.ensures.tasks popped.items popped.rest one }
+    record { one = one_ring _ c.in_ok-slave.tasks.items c.pop.new.self.items c.in-Some-true.task _ c.in_ok-slave.ensures.tasks popped.items popped.rest one }
