@@ -1,14 +1,15 @@
 -- What a call did at one event channel, as the clauses have it of all.
-use Rattle.std.proofs.Common.{◌≡◌, ◌≢◌, ℕ, suc, ◌+◌, ◌<◌, ◌≤◌, Bool, true, false, inl, inr, List, length, set, get_or, Some, None, Option, refl, sym, ap, subst, ◌∙◌, arith}
+use Rattle.std.proofs.Common.{◌≡◌, ◌≢◌, ℕ, suc, ◌+◌, ◌<◌, ◌≤◌, Bool, true, false, inl, inr, List, Ok, length, set, get_or, Some, None, Option, refl, sym, ap, subst, ◌∙◌, arith}
 use Rattle.std.specs.Prelude.{slice_get}
 use Rattle.std.proofs.lemmas.Bool.Decides.{eqb_tells, leb_tells}
 use Rattle.std.proofs.lemmas.Option.{same_Some, slice_get-get_or, slice_get_within}
 use Rattle.xcp_base.specs.Lists.{has_list}
 use Rattle.frame_ring.specs.declared.frame_send.FrameSend.{FrameSend}
 use Rattle.daq_store.specs.Standing.{StoreState}
-use Rattle.tasks.specs.Links.{AwayState, CanStart, LooksAtNewest}
-use Rattle.slave_channels.specs.Channels.{ChannelState, keeps_two}
-use Rattle.slave_channels.specs.Calls.{CanStartAll, HasFull, HasNoPlaces, HasSome, HaveRoom, Looks, OpenedAndEnded, OpensAt, OpensIfAny}
+use Rattle.tasks.specs.Links.{AwayState, CanStart, LooksAtNewest, hand_refusal}
+use Rattle.tasks.specs.declared.fault.HandFault.{HandFault}
+use Rattle.slave_channels.specs.Channels.{AnswersOpen, ChannelState, keeps_two}
+use Rattle.slave_channels.specs.Calls.{CanStartAll, HasFull, HasNoPlaces, HasSome, HaveRoom, Looks, NoneRefuses, OpenedAndEnded, OpensAt, OpensIfAny}
 use Rattle.slave_channels.specs.Each.{IsEach}
 use Rattle.slave_channels.specs.Inner.{EndsAt, HaveRoomBelow, IsFront, KeepNone}
 use Rattle.slave_channels.proofs.EachLemmas.{front-map, front-next, front-rest, front-twice, get-set_same, read_at}
@@ -153,3 +154,18 @@ pub room-all : (lists : List ℕ) (all now : List ChannelState) (n : ℕ) → al
 room-all lists all now n same all_are before = λ c set ch set_at at some.
     let there = ap (λ xs. slice_get xs c) same ∙ at in
     before c set ch (omega (arith, slice_get_within all c ch there, all_are)) set_at there some
+
+-- what was opened wasn't refused
+pub not-refused : (r : Option HandFault) (done : Unit) → AnswersOpen r (Ok done) → r ≡ None
+not-refused None done opened = refl
+not-refused (Some fault) done opened = absurd opened
+
+-- one event channel more of which no hand-out is refused
+pub none-refuses : (lists : List ℕ) (now : List ChannelState) (c : ℕ)
+    → ((set : ℕ) (state : ChannelState) → slice_get lists c ≡ Some set → set ≢ 0 → slice_get now c ≡ Some state → hand_refusal state.link ≡ None)
+    → NoneRefuses lists now c → NoneRefuses lists now (c + 1)
+none-refuses lists now c here so_far k set state below is some at =
+    elim (eqb_tells k c) [
+      | inl w ↦ here set state (subst (λ j. slice_get lists j ≡ Some set) w.1 is) some (subst (λ j. slice_get now j ≡ Some state) w.1 at)
+      | inr w ↦ so_far k set state (omega (arith, below, w.1)) is some at
+    ]

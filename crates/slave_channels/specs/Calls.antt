@@ -165,7 +165,14 @@ module _ (store : StoreState) (number : ℕ) (caps lists : List ℕ) where
       → (b ≡ a)
       ⊎ ((set ≢ 0) × ((m : ChannelState) × Opens a m store c cap number × Ends m b))
 
--- at an event channel with some lists the measurement was refused with this fault
+-- no hand-out is refused at those of the first n event channels that have some lists
+abbrev pub NoneRefuses : List ℕ → List ChannelState → ℕ → Type 0
+NoneRefuses lists now n =
+    (c set : ℕ) (state : ChannelState) → c < n → slice_get lists c ≡ Some set → set ≢ 0
+    → slice_get now c ≡ Some state → hand_refusal state.link ≡ None
+
+-- at the first event channel with some lists that can't be opened, the measurement was refused with
+-- this fault
 pub record HasRefused (lists : List ℕ) (now : List ChannelState) (fault : HandFault)
     : Type 0 where
   pub channel : ℕ
@@ -175,6 +182,7 @@ pub record HasRefused (lists : List ℕ) (now : List ChannelState) (fault : Hand
   pub some : set ≢ 0
   pub state_is : slice_get now channel ≡ Some state
   pub answers : AnswersOpen (hand_refusal state.link) (Err fault)
+  pub before : NoneRefuses lists now channel
 
 -- what came back of the measurement before the last; the rest is as it was
 pub record GivesBackOlder (answer : Option FinishedState) (a b : ChannelState) : Type 0 where
