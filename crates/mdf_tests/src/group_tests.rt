@@ -158,14 +158,12 @@ fn a_value_behind_an_operation_stands_behind_the_sample(rt: HostRuntime) -> Resu
 /// That a channel of values is this.
 fn same(rt: &impl Abort, channel: &NewChannel, found: Found) {
     let (name, format, byte, bit, count) = found;
+    let is_bare = channel.comment.is_none() && channel.limits.is_none();
+    let place = (channel.byte_offset, channel.bit_offset, channel.bit_count);
     assert!(rt; channel.name.as_str() == name, "at {name}");
-    assert!(rt; channel.kind == ChannelKind::Value, "at {name}");
+    assert!(rt; channel.kind == ChannelKind::Value && is_bare, "at {name}");
     assert!(rt; channel.format == format, "at {name}");
-    assert_eq!(rt; channel.byte_offset, byte, "at {name}");
-    assert_eq!(rt; channel.bit_offset, bit, "at {name}");
-    assert_eq!(rt; channel.bit_count, count, "at {name}");
-    assert!(rt; channel.comment.is_none(), "at {name}");
-    assert!(rt; channel.limits.is_none(), "at {name}");
+    assert!(rt; place == (byte, bit, count), "at {name}: {place:?}");
 }
 
 #[test]

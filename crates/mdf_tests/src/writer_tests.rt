@@ -45,14 +45,18 @@ fn written<O: MdfOut + Drop>(alloc: Global, out: O, limits: Limits) -> Result<O,
     requires { IfSome (O.known out) (λ bytes. bytes ≡ []) }
 {
     let mut writer = MdfWriter::with_limits(alloc, about(alloc)?, out, limits)?;
+    write(alloc, &mut writer)?;
+    writer.finish()
+}
+
+fn write<O: MdfOut + Drop>(alloc: Global, writer: &mut MdfWriter<O>) -> Result<(), MdfFault> {
     let first = writer.group("10 ms".to_owned(alloc)?, two(alloc)?, 9)?;
     writer.group("never".to_owned(alloc)?, one(alloc)?, 2)?;
     let second = writer.group("event".to_owned(alloc)?, one(alloc)?, 2)?;
     writer.record(first, &QUARTERS[..9])?;
     writer.record(first, &QUARTERS[9..])?;
     writer.record(second, &[0x12, 0x34])?;
-    writer.record(first, &LATER)?;
-    writer.finish()
+    writer.record(first, &LATER)
 }
 
 #[test]
