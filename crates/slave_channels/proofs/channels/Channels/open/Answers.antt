@@ -46,16 +46,17 @@ loop-c-preserved c =
     let within : c.loop-c.c < length c.args.lists.now = omega (arith, here, c.requires.lists) in
     let set : c.index-lists-c.result ≡ get_or c.args.lists.now c.loop-c.c 0 = c.index-lists-c.is ∙ get_or_default_zero c.args.lists.now c.loop-c.c c.index-lists-c.result within in
     let same : (n : ℕ) → slice_get c.args.lists.now c.loop-c.c ≡ Some n → c.index-lists-c.result ≡ n =
-    λ n is. same_Some c.index-lists-c.result n (sym (read_at c.args.lists.now c.loop-c.c c.index-lists-c.result c.index-lists-c.is within) ∙ is) in
-    (front-only (OpensAt c.args.store.now c.args.number c.args.caps.now c.args.lists.now) _ c.loop-c.c _ c.loop-c.self _
-      (opens-at c.args.store.now c.args.number c.args.caps.now c.args.lists.now c.loop-c.c (omega (arith, here, c.requires.caps)) within)
-      c.loop-c.invariant.0
-      (subst (λ n. IsOnlyAt (OpensIfAny c.args.store.now c.args.number c.loop-c.c (get_or c.args.caps.now c.loop-c.c 0) n) c.loop-c.c c.loop-c.self c.open_at.new.self) set c.in_default.ensures.ok),
-    none-refuses c.args.lists.now c.args.self.now c.loop-c.c
-      (λ n state is some at.
-        not-refused (hand_refusal state.link) _
-        (c.in_default.ensures.answer state (c.loop-c.invariant.0.rest c.loop-c.c (omega arith) ∙ at) (λ e. some (sym (same n is) ∙ e))))
-      c.loop-c.invariant.1)
+    λ n is. same_Some c.index-lists-c.result n (sym (read_at c.args.lists.now c.loop-c.c c.index-lists-c.result c.index-lists-c.is within) ∙ is) in (
+      front-only (OpensAt c.args.store.now c.args.number c.args.caps.now c.args.lists.now) _ c.loop-c.c _ c.loop-c.self _
+          (opens-at c.args.store.now c.args.number c.args.caps.now c.args.lists.now c.loop-c.c (omega (arith, here, c.requires.caps)) within)
+          c.loop-c.invariant.0
+          (subst (λ n. IsOnlyAt (OpensIfAny c.args.store.now c.args.number c.loop-c.c (get_or c.args.caps.now c.loop-c.c 0) n) c.loop-c.c c.loop-c.self c.open_at.new.self) set c.in_default.ensures.ok),
+      none-refuses c.args.lists.now c.args.self.now c.loop-c.c
+          (λ n state is some at.
+          not-refused (hand_refusal state.link) _
+          (c.in_default.ensures.answer state (c.loop-c.invariant.0.rest c.loop-c.c (omega arith) ∙ at) (λ e. some (sym (same n is) ∙ e))))
+          c.loop-c.invariant.1,
+    )
 
 -- these are all
 pub returns-clause-ok : goal.returns-clause-ok
