@@ -1,4 +1,5 @@
 //! Blocks against the bytes that the format's tables say.
+use crate::holds::holds;
 use crate::worked_bytes as worked;
 use mdf_blocks::{
     Axis, Channel, ChannelGroup, ChannelKind, ConversionKind, DataGroup, FileHeader, FileHistory,
@@ -13,7 +14,7 @@ use std::test::Fail;
 
 /// That bytes are those of a table.
 fn same(rt: &impl Abort, name: &str, bytes: &[u8], wanted: &[u8]) {
-    assert!(rt; bytes == wanted, "at {name}");
+    holds(rt, bytes == wanted, name);
 }
 
 fn header(alloc: Global) -> Result<Vec<u8>, AllocError> {

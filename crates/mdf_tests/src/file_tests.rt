@@ -1,10 +1,10 @@
 //! A small file against the bytes that the format's tables say.
+use crate::holds::holds;
 use crate::worked_file::FILE;
 use mdf_blocks::{Axis, ChannelKind, ConversionKind, ListedData, Time, ValueFormat, Zone};
 use mdf_file::{About, MdfFault, NewChannel, NewConversion, StreamedGroup, data_bytes, file_end};
 use measured_values::{ByteOrder, ValueLimits};
 use std::alloc::{AllocError, Global};
-use std::process::Abort;
 use std::test::Fail;
 
 pub const START: Time = Time {
@@ -152,6 +152,6 @@ fn records_that_stand_in_front_are_those_of_the_groups(rt: HostRuntime) -> Resul
         Ok(bytes) => bytes,
         Err(_) => Vec::new(alloc),
     };
-    assert!(rt; bytes.as_slice() == FILE);
+    holds(&rt, bytes.as_slice() == FILE, "the file");
     Ok(())
 }

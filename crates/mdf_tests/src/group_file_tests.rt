@@ -1,5 +1,6 @@
 //! Samples in a measurement file, and what the file is told by.
 use crate::group_tests::{RECORD, SAMPLE, columns};
+use crate::holds::holds;
 use mdf_blocks::{Time, Zone};
 use mdf_file::{About, MdfFault, MemoryOut};
 use mdf_groups::{
@@ -48,27 +49,67 @@ fn samples_go_to_their_groups(rt: HostRuntime) -> Result<(), Fail> {
         return Err(Fail::from("no file"));
     };
     let bytes = out.bytes();
-    assert!(rt; bytes.len() > 259);
-    assert!(rt; &bytes[192..219] == RECORD.as_slice());
-    assert!(rt; bytes[248] == 3);
-    assert!(rt; &bytes[249..259] == SAMPLE.as_slice());
+    holds(&rt, bytes.len() > 259, "the length");
+    holds(
+        &rt,
+        &bytes[192..219] == RECORD.as_slice(),
+        "the first record",
+    );
+    holds(&rt, bytes[248] == 3, "the mark of the second");
+    holds(
+        &rt,
+        &bytes[249..259] == SAMPLE.as_slice(),
+        "the sample of the second",
+    );
     Ok(())
 }
 
 #[test]
 fn a_group_has_the_numbers_of_its_list(rt: HostRuntime) -> Result<(), Fail> {
     let alloc = rt.alloc();
-    assert!(rt; group_name(alloc, 3, 12)?.as_str() == "list 3, event 12");
-    assert!(rt; group_name(alloc, 65535, 0)?.as_str() == "list 65535, event 0");
+    holds(
+        &rt,
+        group_name(alloc, 3, 12)?.as_str() == "list 3, event 12",
+        "list 3, event 12",
+    );
+    holds(
+        &rt,
+        group_name(alloc, 65535, 0)?.as_str() == "list 65535, event 0",
+        "list 65535, event 0",
+    );
     Ok(())
 }
 
 #[test]
 fn want_of_memory_is_told(rt: HostRuntime) {
-    assert!(rt; GroupFault::Form(FormFault::Memory).is_memory());
-    assert!(rt; GroupFault::Record(RecordFault::Memory).is_memory());
-    assert!(rt; GroupFault::File(MdfFault::Memory).is_memory());
-    assert!(rt; !GroupFault::Form(FormFault::Outside).is_memory());
-    assert!(rt; !GroupFault::Record(RecordFault::WrongTime).is_memory());
-    assert!(rt; !GroupFault::File(MdfFault::NoGroup).is_memory());
+    holds(
+        &rt,
+        GroupFault::Form(FormFault::Memory).is_memory(),
+        "memory for a form",
+    );
+    holds(
+        &rt,
+        GroupFault::Record(RecordFault::Memory).is_memory(),
+        "memory for a record",
+    );
+    holds(
+        &rt,
+        GroupFault::File(MdfFault::Memory).is_memory(),
+        "memory for the file",
+    );
+    holds(
+        &rt,
+        !GroupFault::Form(FormFault::Outside).is_memory(),
+        "a value outside",
+    );
+    holds(
+        &rt,
+        !GroupFault::Record(RecordFault::WrongTime).is_memory(),
+        "another time",
+    );
+    holds(
+        &rt,
+        !GroupFault::File(MdfFault::NoGroup).is_memory(),
+        "no group",
+    );
 }

@@ -1,6 +1,7 @@
 //! Records and channels against bytes and places that are worked out from the format.
 ghost use Rattle.std.specs.Prelude.{◌≡◌, IfOk, length};
 
+use crate::holds::holds;
 use mdf_blocks::{Axis, ChannelKind, ConversionKind, ValueFormat};
 use mdf_file::NewChannel;
 use mdf_groups::{
@@ -100,17 +101,21 @@ fn form(alloc: Global, front: Front, columns: &[PlacedColumn<'_>]) -> Result<Rec
 fn a_record_is_front_mark_sample_and_values(rt: HostRuntime) -> Result<(), Fail> {
     let alloc = rt.alloc();
     let form = form(alloc, Front::Seconds, &columns(alloc)?)?;
-    assert_eq!(rt; form.record_bytes(), 27);
+    holds(&rt, form.record_bytes() == 27, "the length of a record");
     let mut out = Vec::new(alloc);
     let written = form.write_record(&mut out, RecordTime::Seconds(1.5), 1, &SAMPLE);
-    assert!(rt; written == Ok(()));
-    assert!(rt; out.as_slice() == RECORD.as_slice());
+    holds(&rt, written == Ok(()), "a record");
+    holds(&rt, out.as_slice() == RECORD.as_slice(), "its bytes");
 
     let late = form.write_record(&mut out, RecordTime::Unknown, 0, &SAMPLE);
-    assert!(rt; late == Err(RecordFault::WrongTime));
+    holds(&rt, late == Err(RecordFault::WrongTime), "no time");
     let short = form.write_record(&mut out, RecordTime::Seconds(2.0), 0, &SAMPLE[1..]);
-    assert!(rt; short == Err(RecordFault::WrongLength));
-    assert_eq!(rt; out.len(), 27);
+    holds(
+        &rt,
+        short == Err(RecordFault::WrongLength),
+        "part of a sample",
+    );
+    holds(&rt, out.len() == 27, "nothing more");
     Ok(())
 }
 
@@ -121,14 +126,18 @@ fn fronts_have_their_bytes(rt: HostRuntime) -> Result<(), Fail> {
     let mut out = Vec::new(alloc);
     let ticks = form(alloc, Front::Ticks, &columns)?;
     let written = ticks.write_record(&mut out, RecordTime::Ticks(0x0102), 2, &SAMPLE);
-    assert!(rt; written == Ok(()));
-    assert!(rt; out[..10] == [2, 1, 0, 0, 0, 0, 0, 0, 2, 1]);
+    holds(&rt, written == Ok(()), "a record of ticks");
+    holds(
+        &rt,
+        out[..10] == [2, 1, 0, 0, 0, 0, 0, 0, 2, 1],
+        "its bytes",
+    );
     out.clear();
     let nothing = form(alloc, Front::Nothing, &columns)?;
     let written = nothing.write_record(&mut out, RecordTime::Unknown, 3, &SAMPLE);
-    assert!(rt; written == Ok(()));
-    assert!(rt; out[..3] == [3, 1, 2]);
-    assert_eq!(rt; nothing.record_bytes(), 11);
+    holds(&rt, written == Ok(()), "a record without a time");
+    holds(&rt, out[..3] == [3, 1, 2], "its bytes");
+    holds(&rt, nothing.record_bytes() == 11, "its length");
     Ok(())
 }
 
@@ -144,14 +153,22 @@ fn a_value_behind_an_operation_stands_behind_the_sample(rt: HostRuntime) -> Resu
     let form = form(alloc, Front::Nothing, &[column])?;
     let mut out = Vec::new(alloc);
     let written = form.write_record(&mut out, RecordTime::Unknown, 0, &SAMPLE);
-    assert!(rt; written == Ok(()));
-    assert!(rt; out[11..] == [0xFF; 8]);
+    holds(&rt, written == Ok(()), "a record");
+    holds(&rt, out[11..] == [0xFF; 8], "the value");
     let place = form.places()[0];
-    assert!(rt; place.format == ValueFormat::Signed(INTEL));
-    assert_eq!(rt; place.byte_offset, 11);
+    holds(
+        &rt,
+        place.format == ValueFormat::Signed(INTEL),
+        "its format",
+    );
+    holds(&rt, place.byte_offset == 11, "its place");
 
     let outside = RecordForm::of(alloc, Front::Nothing, 7, &[column]);
-    assert!(rt; matches!(outside, Err(FormFault::Outside)));
+    holds(
+        &rt,
+        matches!(outside, Err(FormFault::Outside)),
+        "a value outside",
+    );
     Ok(())
 }
 
@@ -160,10 +177,10 @@ fn same(rt: &impl Abort, channel: &NewChannel, found: Found) {
     let (name, format, byte, bit, count) = found;
     let is_bare = channel.comment.is_none() && channel.limits.is_none();
     let place = (channel.byte_offset, channel.bit_offset, channel.bit_count);
-    assert!(rt; channel.name.as_str() == name, "at {name}");
-    assert!(rt; channel.kind == ChannelKind::Value && is_bare, "at {name}");
-    assert!(rt; channel.format == format, "at {name}");
-    assert!(rt; place == (byte, bit, count), "at {name}: {place:?}");
+    holds(rt, channel.name.as_str() == name, name);
+    holds(rt, channel.kind == ChannelKind::Value && is_bare, name);
+    holds(rt, channel.format == format, name);
+    holds(rt, place == (byte, bit, count), name);
 }
 
 #[test]
@@ -172,10 +189,18 @@ fn channels_stand_where_the_record_has_their_values(rt: HostRuntime) -> Result<(
     let columns = columns(alloc)?;
     let seconds = form(alloc, Front::Seconds, &columns)?;
     let channels = channels_of(alloc, &seconds, &columns)?;
-    assert_eq!(rt; channels.len(), 9);
-    assert!(rt; channels[0].name.as_str() == "t_2");
-    assert!(rt; channels[0].kind == ChannelKind::Master(Axis::Time));
-    assert_eq!(rt; channels[0].bit_count, 64);
+    holds(&rt, channels.len() == 9, "channels");
+    holds(
+        &rt,
+        channels[0].name.as_str() == "t_2",
+        "the name of the time",
+    );
+    holds(
+        &rt,
+        channels[0].kind == ChannelKind::Master(Axis::Time),
+        "the kind of the time",
+    );
+    holds(&rt, channels[0].bit_count == 64, "the bits of the time");
     same(
         &rt,
         &channels[1],
@@ -188,10 +213,18 @@ fn channels_stand_where_the_record_has_their_values(rt: HostRuntime) -> Result<(
     let one = [placed(&ROWS[0], None)];
     let ticks = form(alloc, Front::Ticks, &one)?;
     let channels = channels_of(alloc, &ticks, &one)?;
-    assert_eq!(rt; channels.len(), 4);
-    assert!(rt; channels[0].name.as_str() == "index");
-    assert!(rt; channels[0].kind == ChannelKind::VirtualMaster(Axis::Index));
-    assert_eq!(rt; channels[0].bit_count, 0);
+    holds(&rt, channels.len() == 4, "channels without a tick");
+    holds(
+        &rt,
+        channels[0].name.as_str() == "index",
+        "the name of the index",
+    );
+    holds(
+        &rt,
+        channels[0].kind == ChannelKind::VirtualMaster(Axis::Index),
+        "the kind of the index",
+    );
+    holds(&rt, channels[0].bit_count == 0, "the bits of the index");
     same(
         &rt,
         &channels[1],
@@ -263,23 +296,27 @@ fn conversions_have_their_numbers_and_texts(rt: HostRuntime) -> Result<(), Fail>
         offset: -40.0,
     };
     let (channel, lost) = converted(alloc, &linear)?;
-    assert!(rt; !lost);
-    assert!(rt; says(&channel.unit, "V"));
-    assert!(rt; says(&channel.comment, "supply"));
+    holds(&rt, !lost, "nothing is lost");
+    holds(&rt, says(&channel.unit, "V"), "the unit");
+    holds(&rt, says(&channel.comment, "supply"), "the comment");
     match &channel.conversion {
         Some(conversion) => {
-            assert!(rt; conversion.kind == ConversionKind::Linear);
-            assert!(rt; conversion.values.as_slice() == [-40.0, 0.5].as_slice());
-            assert_eq!(rt; conversion.texts.len(), 0);
+            holds(&rt, conversion.kind == ConversionKind::Linear, "the kind");
+            holds(
+                &rt,
+                conversion.values.as_slice() == [-40.0, 0.5].as_slice(),
+                "the numbers",
+            );
+            holds(&rt, conversion.texts.len() == 0, "no texts");
         }
-        None => assert!(rt; false, "linear"),
+        None => holds(&rt, false, "linear"),
     }
     match channel.limits {
         Some(limits) => {
-            assert!(rt; limits.least == -40.0);
-            assert!(rt; limits.greatest == 87.5);
+            holds(&rt, limits.least == -40.0, "the least");
+            holds(&rt, limits.greatest == 87.5, "the greatest");
         }
-        None => assert!(rt; false, "limits"),
+        None => holds(&rt, false, "limits"),
     }
     Ok(())
 }
@@ -288,11 +325,11 @@ fn conversions_have_their_numbers_and_texts(rt: HostRuntime) -> Result<(), Fail>
 fn raw_values_have_no_limits(rt: HostRuntime) -> Result<(), Fail> {
     let alloc = rt.alloc();
     let (channel, lost) = converted(alloc, &Conversion::Other)?;
-    assert!(rt; lost);
-    assert!(rt; says(&channel.unit, "raw"));
-    assert!(rt; says(&channel.comment, "supply"));
-    assert!(rt; channel.conversion.is_none());
-    assert!(rt; channel.limits.is_none());
+    holds(&rt, lost, "it is lost");
+    holds(&rt, says(&channel.unit, "raw"), "the unit");
+    holds(&rt, says(&channel.comment, "supply"), "the comment");
+    holds(&rt, channel.conversion.is_none(), "no conversion");
+    holds(&rt, channel.limits.is_none(), "no limits");
     Ok(())
 }
 
@@ -307,15 +344,23 @@ fn ranges_have_their_bounds_and_the_default(rt: HostRuntime) -> Result<(), Fail>
     let Some(conversion) = &channel.conversion else {
         return Err(Fail::from("no conversion"));
     };
-    assert!(rt; conversion.kind == ConversionKind::RangesToTexts);
-    assert!(rt; conversion.values.as_slice() == [0.0, 9.0, 10.0, 19.0].as_slice());
+    holds(
+        &rt,
+        conversion.kind == ConversionKind::RangesToTexts,
+        "the kind",
+    );
+    holds(
+        &rt,
+        conversion.values.as_slice() == [0.0, 9.0, 10.0, 19.0].as_slice(),
+        "the bounds",
+    );
     for (text, wanted) in conversion.texts.iter().zip(["low", "high", "none"]) {
         match text {
-            Some(text) => assert!(rt; text.as_str() == wanted, "at {wanted}"),
-            None => assert!(rt; false, "at {wanted}"),
+            Some(text) => holds(&rt, text.as_str() == wanted, wanted),
+            None => holds(&rt, false, wanted),
         }
     }
-    assert_eq!(rt; conversion.texts.len(), 3);
+    holds(&rt, conversion.texts.len() == 3, "the number of texts");
     Ok(())
 }
 
@@ -325,13 +370,13 @@ fn ticks_are_seconds(rt: HostRuntime) {
         mantissa: 1,
         exponent: -6,
     };
-    assert!(rt; seconds_of(1_500_000, micro) == 1.5);
-    assert!(rt; seconds_of(1, micro) == 0.000001);
+    holds(&rt, seconds_of(1_500_000, micro) == 1.5, "1.5 s");
+    holds(&rt, seconds_of(1, micro) == 0.000001, "1 µs");
     let long = Tick {
         mantissa: 25,
         exponent: 1,
     };
-    assert!(rt; seconds_of(4, long) == 1000.0);
-    assert!(rt; risen(2.0, 1.5) == 2.0);
-    assert!(rt; risen(2.0, 2.5) == 2.5);
+    holds(&rt, seconds_of(4, long) == 1000.0, "1000 s");
+    holds(&rt, risen(2.0, 1.5) == 2.0, "an earlier time");
+    holds(&rt, risen(2.0, 2.5) == 2.5, "a later time");
 }

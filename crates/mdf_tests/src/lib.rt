@@ -10,6 +10,8 @@ mod group_file_tests;
 #[cfg(test)]
 mod group_tests;
 #[cfg(test)]
+mod holds;
+#[cfg(test)]
 mod place_tests;
 #[cfg(test)]
 mod rule_tests;

@@ -1,4 +1,5 @@
 //! Encodings against the places where MDF finds their values.
+use crate::holds::holds;
 use mdf_blocks::{ValueFormat, ValuePlace, place_in_record};
 use measured_values::{BitOperation, ByteOrder, DataType, Encoding};
 use std::process::Abort;
@@ -93,7 +94,7 @@ fn place(place: Place) -> ValuePlace {
 
 /// That the place of a value at byte 16 is this.
 fn same(rt: &impl Abort, name: &str, encoding: Encoding, wanted: Option<ValuePlace>) {
-    assert!(rt; place_in_record(encoding, 16) == wanted, "at {name}");
+    holds(rt, place_in_record(encoding, 16) == wanted, name);
 }
 
 #[test]

@@ -1,4 +1,5 @@
 //! Conversions against the rules that MDF has for them.
+use crate::holds::holds;
 use mdf_blocks::{PlacedText, Rule, bounds_of, keys_of, rule_of};
 use measured_values::{Conversion, TextRow, TextTable};
 use std::alloc::{AllocError, Global};
@@ -29,11 +30,11 @@ fn table(alloc: Global, rows: Rows) -> Result<Conversion, AllocError> {
 
 /// That places are these.
 fn same(rt: &impl Abort, name: &str, places: &[PlacedText], wanted: Places) {
-    assert_eq!(rt; places.len(), wanted.len(), "at {name}");
+    holds(rt, places.len() == wanted.len(), name);
     for (place, (least, greatest, row)) in places.iter().zip(wanted) {
-        assert!(rt; place.least == *least, "at {name}");
-        assert!(rt; place.greatest == *greatest, "at {name}");
-        assert_eq!(rt; place.row, *row, "at {name}");
+        holds(rt, place.least == *least, name);
+        holds(rt, place.greatest == *greatest, name);
+        holds(rt, place.row == *row, name);
     }
 }
 
@@ -86,13 +87,13 @@ fn tables_of_texts_rise(rt: HostRuntime) -> Result<(), Fail> {
     for (name, rows, wanted) in &VALUES {
         match rule_of(alloc, &table(alloc, rows)?, false)? {
             Rule::Values(places) => same(&rt, name, &places, wanted),
-            _ => assert!(rt; false, "at {name}"),
+            _ => holds(&rt, false, name),
         }
     }
     for (name, rows, wanted) in &RANGES {
         match rule_of(alloc, &table(alloc, rows)?, true)? {
             Rule::Ranges(places) => same(&rt, name, &places, wanted),
-            _ => assert!(rt; false, "at {name}"),
+            _ => holds(&rt, false, name),
         }
     }
     Ok(())
@@ -103,16 +104,18 @@ fn what_mdf_cannot_say_is_lost(rt: HostRuntime) -> Result<(), Fail> {
     let alloc = rt.alloc();
     for (name, rows) in &LOST {
         let rule = rule_of(alloc, &table(alloc, rows)?, true)?;
-        assert!(rt; matches!(rule, Rule::Lost), "at {name}");
+        holds(&rt, matches!(rule, Rule::Lost), name);
     }
     let halves = table(alloc, &[(0.0, 9.0)])?;
-    assert!(rt;
+    holds(
+        &rt,
         matches!(rule_of(alloc, &halves, false)?, Rule::Lost),
-        "not whole"
+        "not whole",
     );
-    assert!(rt;
+    holds(
+        &rt,
         matches!(rule_of(alloc, &Conversion::Other, true)?, Rule::Lost),
-        "other"
+        "other",
     );
     Ok(())
 }
@@ -125,8 +128,8 @@ fn numbers_stand_where_mdf_has_them(rt: HostRuntime) -> Result<(), Fail> {
         offset: -40.0,
     };
     match rule_of(alloc, &linear, true)? {
-        Rule::Linear(numbers) => assert!(rt; numbers == [-40.0, 0.5]),
-        _ => assert!(rt; false),
+        Rule::Linear(numbers) => holds(&rt, numbers == [-40.0, 0.5], "linear"),
+        _ => holds(&rt, false, "linear"),
     }
     let rational = Conversion::Rational {
         b: 2.0,
@@ -134,8 +137,12 @@ fn numbers_stand_where_mdf_has_them(rt: HostRuntime) -> Result<(), Fail> {
         f: 4.0,
     };
     match rule_of(alloc, &rational, true)? {
-        Rule::Rational(numbers) => assert!(rt; numbers == [0.0, 4.0, -3.0, 0.0, 0.0, 2.0]),
-        _ => assert!(rt; false),
+        Rule::Rational(numbers) => holds(
+            &rt,
+            numbers == [0.0, 4.0, -3.0, 0.0, 0.0, 2.0],
+            "rational",
+        ),
+        _ => holds(&rt, false, "rational"),
     }
     let places = [
         PlacedText {
@@ -149,7 +156,15 @@ fn numbers_stand_where_mdf_has_them(rt: HostRuntime) -> Result<(), Fail> {
             row: 0,
         },
     ];
-    assert!(rt; keys_of(alloc, &places)?.as_slice() == [0.0, 10.0].as_slice());
-    assert!(rt; bounds_of(alloc, &places)?.as_slice() == [0.0, 9.0, 10.0, 19.0].as_slice());
+    holds(
+        &rt,
+        keys_of(alloc, &places)?.as_slice() == [0.0, 10.0].as_slice(),
+        "keys",
+    );
+    holds(
+        &rt,
+        bounds_of(alloc, &places)?.as_slice() == [0.0, 9.0, 10.0, 19.0].as_slice(),
+        "bounds",
+    );
     Ok(())
 }

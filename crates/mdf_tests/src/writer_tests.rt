@@ -2,11 +2,11 @@
 ghost use Rattle.std.specs.Prelude.{◌≡◌, [], IfSome, None};
 
 use crate::file_tests::{COMMENT, LATER, QUARTERS, START, speed, state, time};
+use crate::holds::holds;
 use crate::worked_file::FILE;
 use mdf_file::{About, Limits, MdfFault, MdfOut, MdfWriter, MemoryOut, NewChannel, SeekOut};
 use std::alloc::{AllocError, Global};
 use std::io::{self, Cursor};
-use std::process::Abort;
 use std::test::Fail;
 
 const SMALL: Limits = Limits {
@@ -65,11 +65,15 @@ fn a_written_file_has_the_bytes_of_the_tables(rt: HostRuntime) -> Result<(), Fai
     let Ok(out) = written(alloc, MemoryOut::new(alloc), SMALL) else {
         return Err(Fail::from("no file"));
     };
-    assert!(rt; out.bytes() == FILE);
+    holds(&rt, out.bytes() == FILE, "in memory");
     let Ok(out) = written(alloc, SeekOut::new(Cursor::new(Vec::new(alloc))), SMALL) else {
         return Err(Fail::from("no file"));
     };
-    assert!(rt; out.into_inner().into_inner().as_slice() == FILE);
+    holds(
+        &rt,
+        out.into_inner().into_inner().as_slice() == FILE,
+        "by a cursor",
+    );
     Ok(())
 }
 
@@ -81,11 +85,12 @@ fn all_that_waits_is_written_at_the_limit_of_all(rt: HostRuntime) -> Result<(), 
     };
     let bytes = out.bytes();
     for (place, len) in [(168, 42), (216, 26), (248, 33)] {
-        assert!(rt;
+        holds(
+            &rt,
             bytes.get(place..place + 4) == Some(&b"##DT"[..]),
-            "at {place}"
+            "a data block",
         );
-        assert!(rt; bytes.get(place + 8) == Some(&len), "at {place}");
+        holds(&rt, bytes.get(place + 8) == Some(&len), "its length");
     }
     Ok(())
 }
@@ -97,11 +102,27 @@ fn what_is_refused_is_named(rt: HostRuntime) -> Result<(), Fail> {
         return Err(Fail::from("no file"));
     };
     let none = writer.group("10 ms".to_owned(alloc)?, two(alloc)?, 0);
-    assert!(rt; none == Err(MdfFault::NoRecordBytes));
-    assert!(rt; writer.group("10 ms".to_owned(alloc)?, two(alloc)?, 9) == Ok(0));
-    assert!(rt; writer.record(1, &LATER) == Err(MdfFault::NoGroup));
-    assert!(rt; writer.record(0, &LATER[1..]) == Err(MdfFault::PartOfRecord));
-    assert!(rt; writer.record(0, &LATER) == Ok(()));
+    holds(
+        &rt,
+        none == Err(MdfFault::NoRecordBytes),
+        "records of no bytes",
+    );
+    holds(
+        &rt,
+        writer.group("10 ms".to_owned(alloc)?, two(alloc)?, 9) == Ok(0),
+        "a group",
+    );
+    holds(
+        &rt,
+        writer.record(1, &LATER) == Err(MdfFault::NoGroup),
+        "no group",
+    );
+    holds(
+        &rt,
+        writer.record(0, &LATER[1..]) == Err(MdfFault::PartOfRecord),
+        "part of a record",
+    );
+    holds(&rt, writer.record(0, &LATER) == Ok(()), "a record");
     Ok(())
 }
 
@@ -140,7 +161,11 @@ fn a_writer_that_failed_takes_no_more(rt: HostRuntime) -> Result<(), Fail> {
     let Ok(mut writer) = MdfWriter::with_limits(alloc, about(alloc)?, out, SMALL) else {
         return Err(Fail::from("no file"));
     };
-    assert!(rt; writer.group("10 ms".to_owned(alloc)?, two(alloc)?, 9) == Ok(0));
+    holds(
+        &rt,
+        writer.group("10 ms".to_owned(alloc)?, two(alloc)?, 9) == Ok(0),
+        "a group",
+    );
     let wanted = [
         Ok(()),
         Ok(()),
@@ -148,11 +173,23 @@ fn a_writer_that_failed_takes_no_more(rt: HostRuntime) -> Result<(), Fail> {
         Err(MdfFault::Unwritten),
     ];
     for answer in wanted {
-        assert!(rt; writer.record(0, &LATER) == answer);
+        holds(&rt, writer.record(0, &LATER) == answer, "a record");
     }
     let later = writer.group("event".to_owned(alloc)?, one(alloc)?, 0);
-    assert!(rt; later == Err(MdfFault::Unwritten));
-    assert!(rt; matches!(writer.finish(), Err(MdfFault::Unwritten)));
-    assert!(rt; bytes.len() == 192 && bytes.starts_with(b"UnFinMF "));
+    holds(
+        &rt,
+        later == Err(MdfFault::Unwritten),
+        "a group behind a failure",
+    );
+    holds(
+        &rt,
+        matches!(writer.finish(), Err(MdfFault::Unwritten)),
+        "the end behind a failure",
+    );
+    holds(
+        &rt,
+        bytes.len() == 192 && bytes.starts_with(b"UnFinMF "),
+        "what was written",
+    );
     Ok(())
 }
