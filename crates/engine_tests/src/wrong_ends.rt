@@ -36,11 +36,21 @@ fn triggered<K: Ring>(alloc: Global, cap: usize) -> Result<Engine<VecOut<Global>
     let Ok(mut engine) = opened else {
         return Err(Fail::from("an engine that isn't opened"));
     };
+    trigger_and_pump(&mut engine)?;
+    Ok(engine)
+}
+
+fn trigger_and_pump<T: Beside + ItemTake>(
+    engine: &mut Engine<VecOut<Global>, T>,
+) -> Result<(), Fail>
+where
+    T::Send: SendEnd<End = T::End>,
+{
     engine.trigger(0, &[7, 8], 0)?;
     engine.trigger(1, &[9, 10], 0)?;
     engine.pump()?;
     engine.trigger(0, &[11, 12], 1)?;
-    Ok(engine)
+    Ok(())
 }
 
 /// What is left of the samplers of an engine, and the transmitter of their rings.
