@@ -165,14 +165,14 @@ module _ (store : StoreState) (number : ℕ) (caps lists : List ℕ) where
       → (b ≡ a)
       ⊎ ((set ≢ 0) × ((m : ChannelState) × Opens a m store c cap number × Ends m b))
 
--- no hand-out is refused at those of the first n event channels that have some lists
+-- nothing that is out refuses a hand-out at those of the first n event channels that have lists
 abbrev pub NoneRefuses : List ℕ → List ChannelState → ℕ → Type 0
 NoneRefuses lists now n =
     (c set : ℕ) (state : ChannelState) → c < n → slice_get lists c ≡ Some set → set ≢ 0
     → slice_get now c ≡ Some state → hand_refusal state.link ≡ None
 
--- at the first event channel with some lists that can't be opened, the measurement was refused with
--- this fault
+-- at an event channel with some lists the measurement was refused with this fault, and nothing that
+-- is out refuses a hand-out before it
 pub record HasRefused (lists : List ℕ) (now : List ChannelState) (fault : HandFault)
     : Type 0 where
   pub channel : ℕ
