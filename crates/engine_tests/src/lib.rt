@@ -1,6 +1,6 @@
 //! The tests of whole engines, and of what else calls alone show: the fixed run over writers that
 //! fail, a send end over a list and one that can't be finished, ends that aren't an engine's,
-//! orders, texts. As a library this crate is empty.
+//! orders, texts, runs with threads. As a library this crate is empty.
 #![tactic(auto)]
 
 #[cfg(test)]
@@ -33,6 +33,8 @@ mod spans_copied;
 mod stores;
 #[cfg(test)]
 mod texts;
+#[cfg(test)]
+mod threads;
 #[cfg(test)]
 mod whole_run;
 #[cfg(test)]

@@ -1,5 +1,5 @@
 //! A gate that lets the steps go one after another, and looks at what the pumps write around each.
-use crate::turns::reaches;
+use crate::threads::turns::reaches;
 use daq_run::Gate;
 use std::process::Abort;
 use std::sync::atomic::{AtomicU64, Ordering};

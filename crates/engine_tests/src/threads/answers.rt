@@ -1,7 +1,7 @@
 //! What a gate is told of pumps: the whole answer of each, once.
-use crate::one_by_one::OneByOne;
+use crate::threads::one_by_one::OneByOne;
 use crate::same::same;
-use crate::text::{TWO_LISTS, TWO_PLACES, TWO_RINGS_OF_BYTES, run_of};
+use crate::threads::text::{TWO_LISTS, TWO_PLACES, TWO_RINGS_OF_BYTES, run_of};
 use daq_run::run_threads;
 use frame_writer::VecOut;
 use std::test::Fail;

@@ -1,5 +1,5 @@
 //! Samples in a measurement file, and what the file is told by.
-use crate::group_tests::{RECORD, SAMPLE, columns};
+use crate::mdf::group_tests::{RECORD, SAMPLE, columns};
 use crate::holds::holds;
 use mdf_blocks::{Time, Zone};
 use mdf_file::{About, MdfFault, MemoryOut};

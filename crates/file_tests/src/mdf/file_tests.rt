@@ -1,6 +1,6 @@
 //! A small file against the bytes that the format's tables say.
 use crate::holds::holds;
-use crate::worked_file::FILE;
+use crate::mdf::worked_file::FILE;
 use mdf_blocks::{Axis, ChannelKind, ConversionKind, ListedData, Time, ValueFormat, Zone};
 use mdf_file::{About, MdfFault, NewChannel, NewConversion, StreamedGroup, data_bytes, file_end};
 use measured_values::{ByteOrder, ValueLimits};

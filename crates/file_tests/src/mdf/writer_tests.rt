@@ -1,9 +1,9 @@
 //! Files that are written record by record.
 ghost use Rattle.std.specs.Prelude.{◌≡◌, [], IfSome, None};
 
-use crate::file_tests::{COMMENT, LATER, QUARTERS, START, speed, state, time};
+use crate::mdf::file_tests::{COMMENT, LATER, QUARTERS, START, speed, state, time};
 use crate::holds::holds;
-use crate::worked_file::FILE;
+use crate::mdf::worked_file::FILE;
 use mdf_file::{About, Limits, MdfFault, MdfOut, MdfWriter, MemoryOut, NewChannel, SeekOut};
 use std::alloc::{AllocError, Global};
 use std::io::{self, Cursor};

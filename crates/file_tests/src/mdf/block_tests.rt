@@ -1,6 +1,6 @@
 //! Blocks against the bytes that the format's tables say.
 use crate::holds::holds;
-use crate::worked_bytes as worked;
+use crate::mdf::worked_bytes as worked;
 use mdf_blocks::{
     Axis, Channel, ChannelGroup, ChannelKind, ConversionKind, DataGroup, FileHeader, FileHistory,
     FileState, ListedData, Time, ValueFormat, Zone, data_head, identification, push_channel,

@@ -1,5 +1,5 @@
 //! A gate that knows of each telling of which pump it is.
-use crate::turns::reaches;
+use crate::threads::turns::reaches;
 use daq_run::Gate;
 use std::sync::atomic::{AtomicU64, Ordering};
 use transmitter::Pumped;

@@ -1,0 +1,8 @@
+//! Runs with a thread for each event channel.
+mod answers;
+mod calls;
+mod faults;
+mod in_order;
+mod one_by_one;
+mod text;
+mod turns;

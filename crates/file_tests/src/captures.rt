@@ -1,0 +1,5 @@
+//! What no program shows of a capture.
+mod frames;
+mod packets;
+mod sessions;
+mod streams;
