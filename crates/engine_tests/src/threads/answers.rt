@@ -1,6 +1,6 @@
 //! What a gate is told of pumps: the whole answer of each, once.
-use crate::threads::one_by_one::OneByOne;
 use crate::same::same;
+use crate::threads::one_by_one::OneByOne;
 use crate::threads::text::{TWO_LISTS, TWO_PLACES, TWO_RINGS_OF_BYTES, run_of};
 use daq_run::run_threads;
 use frame_writer::VecOut;

@@ -1,7 +1,7 @@
 //! What threads show of each other, by a gate that lets one step go after another; and in which
 //! order the gate is called, beside the steps and the pumps.
-use crate::threads::in_order::{InOrder, Wrong};
 use crate::same::same;
+use crate::threads::in_order::{InOrder, Wrong};
 use crate::threads::text::{
     BIG_LIST, ONE_BIG_PLACE, TWO_LISTS, TWO_PLACES, TWO_RINGS_OF_BYTES, ZEROS_31, ZEROS_32, run_of,
 };
