@@ -1,6 +1,6 @@
 //! Samples in a measurement file, and what the file is told by.
-use crate::mdf::group_tests::{RECORD, SAMPLE, columns};
 use crate::holds::holds;
+use crate::mdf::group_tests::{RECORD, SAMPLE, columns};
 use mdf_blocks::{Time, Zone};
 use mdf_file::{About, MdfFault, MemoryOut};
 use mdf_groups::{
