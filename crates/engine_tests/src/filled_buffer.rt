@@ -1,8 +1,11 @@
 //! An engine whose pumps fill a buffer.
 use crate::same::same;
 use crate::stores::two_lists;
+use channel_ring::TakeHalf;
 use daq_engine::Engine;
 use frame_writer::{FrameWriter, SinkOut};
+use std::alloc::Global;
+use std::process::Abort;
 use std::test::Fail;
 
 /// Of three frames in a buffer of 24 bytes the last stands before 3 bytes that keep what they had.
@@ -17,38 +20,58 @@ const FOURTH_FRAME: [u8; 24] = [
     0x02, 0x00, 0x00, 0xAA, 0xBB, 0xFF, 0xFF, 0xFF,
 ];
 
+/// An engine of two event channels that fills buffers, with room for two samples of each.
+fn filling(alloc: Global) -> Result<Engine<SinkOut, TakeHalf>, Fail> {
+    let store = two_lists(alloc)?;
+    match Engine::open(alloc, &store, &[2, 2], FrameWriter::new(SinkOut::new())) {
+        Ok(engine) => Ok(engine),
+        Err(_) => Err(Fail::from("an engine that isn't opened")),
+    }
+}
+
+/// A trigger of each event channel.
+fn trigger_both(engine: &mut Engine<SinkOut, TakeHalf>, stamp: u32) -> Result<(), Fail> {
+    engine.trigger(0, &[0xAA, 0xBB], stamp)?;
+    engine.trigger(1, &[0xCC, 0xDD], stamp)?;
+    Ok(())
+}
+
+/// Fills a buffer, and compares how many samples were taken, how many frames and bytes they are,
+/// and the whole buffer.
+fn fills(
+    rt: &impl Abort,
+    engine: &mut Engine<SinkOut, TakeHalf>,
+    buffer: &mut [u8; 24],
+    wanted: (u64, u64, usize),
+    bytes: [u8; 24],
+    row: &str,
+) -> Result<(), Fail> {
+    let (pumped, len) = engine.pump_all(buffer)?;
+    let shown = (pumped.taken, pumped.frames, len);
+    same(rt, shown, wanted, row, "taken, frames, bytes");
+    same(rt, *buffer, bytes, row, "buffer");
+    Ok(())
+}
+
+/// Four samples fill a buffer and the front of the next one.
+fn fills_twice(rt: &impl Abort, engine: &mut Engine<SinkOut, TakeHalf>) -> Result<(), Fail> {
+    trigger_both(engine, 0)?;
+    trigger_both(engine, 1)?;
+    let mut buffer = [0xFF; 24];
+    let row = "three of four samples";
+    fills(rt, engine, &mut buffer, (3, 3, 21), THREE_FRAMES, row)?;
+    fills(
+        rt,
+        engine,
+        &mut buffer,
+        (1, 1, 7),
+        FOURTH_FRAME,
+        "the fourth",
+    )
+}
+
 #[test]
 fn what_does_not_fit_comes_first_in_the_next_buffer(rt: HostRuntime) -> Result<(), Fail> {
-    let alloc = rt.alloc();
-    let store = two_lists(alloc)?;
-    let writer = FrameWriter::new(SinkOut::new());
-    let Ok(mut engine) = Engine::open(alloc, &store, &[2, 2], writer) else {
-        return Err(Fail::from("an engine that isn't opened"));
-    };
-    for stamp in 0..2 {
-        engine.trigger(0, &[0xAA, 0xBB], stamp)?;
-        engine.trigger(1, &[0xCC, 0xDD], stamp)?;
-    }
-    let mut buffer = [0xFF; 24];
-    let (pumped, len) = engine.pump_all(&mut buffer)?;
-    let row = "three of four samples";
-    same(
-        &rt,
-        (pumped.taken, pumped.frames, len),
-        (3, 3, 21),
-        row,
-        "taken, frames, bytes",
-    );
-    same(&rt, buffer, THREE_FRAMES, row, "buffer");
-    let (pumped, len) = engine.pump_all(&mut buffer)?;
-    let row = "the fourth";
-    same(
-        &rt,
-        (pumped.taken, pumped.frames, len),
-        (1, 1, 7),
-        row,
-        "taken, frames, bytes",
-    );
-    same(&rt, buffer, FOURTH_FRAME, row, "buffer");
-    Ok(())
+    let mut engine = filling(rt.alloc())?;
+    fills_twice(&rt, &mut engine)
 }

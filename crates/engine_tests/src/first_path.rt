@@ -2,6 +2,8 @@
 use crate::same::same;
 use daq_run::fixed_run;
 use frame_writer::{FuseOut, WriteFault};
+use std::alloc::Global;
+use std::process::Abort;
 
 const TWO_IMAGES: [[u8; 2]; 2] = [[0xAA, 0xBB], [0xCC, 0xDD]];
 
@@ -58,16 +60,22 @@ const RUNS: [Run; 5] = [
     ),
 ];
 
+/// Compares the fault and what is written of a run.
+fn writes(rt: &impl Abort, alloc: Global, run: Run) {
+    let (name, images, chunk, good, wanted, bytes) = run;
+    let (fault, out) = ended(fixed_run(images, FuseOut::new(alloc, chunk, good)));
+    same(
+        rt,
+        (fault, out.bytes()),
+        (wanted, bytes),
+        name,
+        "fault, bytes",
+    );
+}
+
 #[test]
 fn a_run_writes_the_frames_of_its_images(rt: HostRuntime) {
-    for (name, images, chunk, good, wanted, bytes) in RUNS {
-        let (fault, out) = ended(fixed_run(images, FuseOut::new(rt.alloc(), chunk, good)));
-        same(
-            &rt,
-            (fault, out.bytes()),
-            (wanted, bytes),
-            name,
-            "fault, bytes",
-        );
+    for run in RUNS {
+        writes(&rt, rt.alloc(), run);
     }
 }

@@ -1,16 +1,17 @@
 //! Frames of a sampler over a ring of frames, and of replies, as they go out of a page.
-use crate::by_value::sampler_by_value;
+use crate::frames_sampled::sampled_frames;
 use crate::same::same;
-use crate::stores::two_odts;
 use frame_page::FramePage;
-use frame_ring::limits::MIN_ROOM;
-use frame_ring::{FrameRing, FrameTake, Front, Head};
+use frame_ring::{FrameSend, FrameTake, Front, Head};
+use sampler::Sampler;
 use std::process::Abort;
 use std::test::Fail;
-use xcp_base::ChannelId;
 
 /// The image of each trigger.
 const IMAGE: [u8; 4] = [0xAA, 0xBB, 0xCC, 0xDD];
+
+/// The row of what is compared here.
+const ROW: &str = "a page of ten blocks";
 
 /// Takes the first sample of a ring into a page, if there is one and it finds room.
 fn take_into(page: &mut FramePage<u8>, ring: &mut FrameTake) -> bool {
@@ -57,52 +58,63 @@ fn frames_go(rt: &impl Abort, page: &mut FramePage<u8>, room: usize, wanted: &[u
     same(rt, &buffer[..len], wanted, "a page", what);
 }
 
-#[test]
-fn a_sample_goes_out_in_several_datagrams(rt: HostRuntime) -> Result<(), Fail> {
-    let store = two_odts(rt.alloc())?;
-    let (send, mut take) = FrameRing::new(rt.alloc(), 64, MIN_ROOM)?;
-    let mut sampler = sampler_by_value(rt.alloc(), &store, ChannelId::at(0), send)?;
-    let mut page = FramePage::new(rt.alloc(), 10, 3)?;
-    let row = "a page of ten blocks";
+/// A sample of five of ten blocks and a reply of one find room in a page, and a second sample
+/// doesn't.
+fn a_page_fills(
+    rt: &impl Abort,
+    sampler: &mut Sampler<FrameSend>,
+    take: &mut FrameTake,
+    page: &mut FramePage<u8>,
+) -> Result<(), Fail> {
     let _ = sampler.trigger(&IMAGE, 5)?;
-    let first = take_into(&mut page, &mut take);
+    let first = take_into(page, take);
     let _ = sampler.trigger(&IMAGE, 6)?;
-    let rest = (
-        reply_into(&mut page),
-        take_into(&mut page, &mut take),
-        page.free(),
-    );
+    let rest = (reply_into(page), take_into(page, take), page.free());
     same(
-        &rt,
+        rt,
         (first, rest),
         (true, (true, false, 4)),
-        row,
+        ROW,
         "a sample of five blocks, a reply of one, a sample",
     );
+    Ok(())
+}
+
+/// The frames of the sample and of the reply go out in two datagrams.
+fn frames_go_in_two(rt: &impl Abort, page: &mut FramePage<u8>) {
     // the first frame has 11 bytes, so no second one finds room in 17
     frames_go(
-        &rt,
-        &mut page,
+        rt,
+        page,
         17,
         &[7, 0, 0, 0, 0, 5, 0, 0, 0, 0xAA, 0xBB],
         "the first frame of the sample",
     );
     frames_go(
-        &rt,
-        &mut page,
+        rt,
+        page,
         64,
         &[3, 0, 1, 0, 1, 0xCC, 0xDD, 2, 0, 2, 0, 0xFF, 0],
         "its second one, and the reply",
     );
-    let freed = (page.free(), take_into(&mut page, &mut take));
-    same(&rt, freed, (10, true), row, "room behind what was sent");
+}
+
+/// The second sample finds room now, and is discarded; the next one goes out in its place.
+fn a_discarded_sample_counts_nowhere(
+    rt: &impl Abort,
+    sampler: &mut Sampler<FrameSend>,
+    take: &mut FrameTake,
+    page: &mut FramePage<u8>,
+) -> Result<(), Fail> {
+    let freed = (page.free(), take_into(page, take));
+    same(rt, freed, (10, true), ROW, "room behind what was sent");
     page.discard();
     let _ = sampler.trigger(&IMAGE, 7)?;
-    let taken = take_into(&mut page, &mut take);
-    same(&rt, taken, true, row, "a sample behind what was discarded");
+    let taken = take_into(page, take);
+    same(rt, taken, true, ROW, "a sample behind what was discarded");
     frames_go(
-        &rt,
-        &mut page,
+        rt,
+        page,
         64,
         &[
             7, 0, 3, 0, 0, 7, 0, 0, 0, 0xAA, 0xBB, 3, 0, 4, 0, 1, 0xCC, 0xDD,
@@ -110,4 +122,13 @@ fn a_sample_goes_out_in_several_datagrams(rt: HostRuntime) -> Result<(), Fail> {
         "its frames, with the CTR behind what was sent",
     );
     Ok(())
+}
+
+#[test]
+fn a_sample_goes_out_in_several_datagrams(rt: HostRuntime) -> Result<(), Fail> {
+    let (mut sampler, mut take) = sampled_frames(rt.alloc())?;
+    let mut page = FramePage::new(rt.alloc(), 10, 3)?;
+    a_page_fills(&rt, &mut sampler, &mut take, &mut page)?;
+    frames_go_in_two(&rt, &mut page);
+    a_discarded_sample_counts_nowhere(&rt, &mut sampler, &mut take, &mut page)
 }

@@ -17,10 +17,29 @@ use xcp_base::ChannelId;
 /// The image of each trigger.
 const IMAGE: [u8; 4] = [0xAA, 0xBB, 0xCC, 0xDD];
 
-/// The DAQ lists of which a sample is accepted, and dropped, at a trigger of this timestamp.
-fn trigger(sampler: &mut Sampler<FrameSend>, stamp: u32) -> Result<(u16, u16), Fail> {
+/// The row of what is compared here.
+const ROW: &str = "samples of five blocks through eight";
+
+/// A sampler of a list of two ODTs over a ring of eight blocks of frames, and the ring's take end.
+pub fn sampled_frames(alloc: Global) -> Result<(Sampler<FrameSend>, FrameTake), Fail> {
+    let store = two_odts(alloc)?;
+    let (send, take) = FrameRing::new(alloc, 64, MIN_ROOM)?;
+    let sampler = sampler_by_value(alloc, &store, ChannelId::at(0), send)?;
+    Ok((sampler, take))
+}
+
+/// Compares the DAQ lists of which a sample is accepted, and dropped, at a trigger of this
+/// timestamp.
+fn triggers(
+    rt: &impl Abort,
+    sampler: &mut Sampler<FrameSend>,
+    stamp: u32,
+    wanted: (u16, u16),
+    what: &str,
+) -> Result<(), Fail> {
     let taken = sampler.trigger(&IMAGE, stamp)?;
-    Ok((taken.accepted, taken.dropped))
+    same(rt, (taken.accepted, taken.dropped), wanted, ROW, what);
+    Ok(())
 }
 
 /// Compares the first item of a ring with the sample of this PID and timestamp: its frames stand as
@@ -43,61 +62,42 @@ fn sample_comes(
     item_comes(rt, alloc, take, head, &frames[..])
 }
 
+/// The first sample takes up five of eight blocks, so the next two are dropped, and the one that
+/// finds room behind them says so.
+fn a_full_ring_drops_samples(
+    rt: &impl Abort,
+    alloc: Global,
+    sampler: &mut Sampler<FrameSend>,
+    take: &mut FrameTake,
+) -> Result<(), Fail> {
+    triggers(rt, sampler, 5, (1, 0), "the first trigger")?;
+    triggers(rt, sampler, 6, (0, 1), "the second trigger")?;
+    triggers(rt, sampler, 7, (0, 1), "the third trigger")?;
+    sample_comes(rt, alloc, take, 0x00, 5)?;
+    triggers(rt, sampler, 8, (1, 0), "the fourth trigger")?;
+    sample_comes(rt, alloc, take, 0x80, 8)
+}
+
+/// Behind a stop a trigger sends nothing, and its marker comes behind the last sample.
+fn a_stop_is_marked(
+    rt: &impl Abort,
+    alloc: Global,
+    sampler: &mut Sampler<FrameSend>,
+    take: &mut FrameTake,
+) -> Result<(), Fail> {
+    triggers(rt, sampler, 9, (1, 0), "the fifth trigger")?;
+    sampler.stop(0)?;
+    triggers(rt, sampler, 10, (0, 0), "behind the stop")?;
+    sample_comes(rt, alloc, take, 0x00, 9)?;
+    item_comes(rt, alloc, take, Head::Marker { list: 0 }, &[])?;
+    same(rt, take.look(), None, ROW, "behind the stop marker");
+    same(rt, sampler.room(), 8, ROW, "blocks that are free");
+    Ok(())
+}
+
 #[test]
 fn a_sampler_sends_samples_as_frames(rt: HostRuntime) -> Result<(), Fail> {
-    let store = two_odts(rt.alloc())?;
-    let (send, mut take) = FrameRing::new(rt.alloc(), 64, MIN_ROOM)?;
-    let mut sampler = sampler_by_value(rt.alloc(), &store, ChannelId::at(0), send)?;
-    let row = "samples of five blocks through eight";
-    // the first sample takes up five of eight blocks, so the next two are dropped
-    same(
-        &rt,
-        trigger(&mut sampler, 5)?,
-        (1, 0),
-        row,
-        "the first trigger",
-    );
-    same(
-        &rt,
-        trigger(&mut sampler, 6)?,
-        (0, 1),
-        row,
-        "the second trigger",
-    );
-    same(
-        &rt,
-        trigger(&mut sampler, 7)?,
-        (0, 1),
-        row,
-        "the third trigger",
-    );
-    sample_comes(&rt, rt.alloc(), &mut take, 0x00, 5)?;
-    same(
-        &rt,
-        trigger(&mut sampler, 8)?,
-        (1, 0),
-        row,
-        "the fourth trigger",
-    );
-    sample_comes(&rt, rt.alloc(), &mut take, 0x80, 8)?;
-    same(
-        &rt,
-        trigger(&mut sampler, 9)?,
-        (1, 0),
-        row,
-        "the fifth trigger",
-    );
-    sampler.stop(0)?;
-    same(
-        &rt,
-        trigger(&mut sampler, 10)?,
-        (0, 0),
-        row,
-        "behind the stop",
-    );
-    sample_comes(&rt, rt.alloc(), &mut take, 0x00, 9)?;
-    item_comes(&rt, rt.alloc(), &mut take, Head::Marker { list: 0 }, &[])?;
-    same(&rt, take.look(), None, row, "behind the stop marker");
-    same(&rt, sampler.room(), 8, row, "blocks that are free");
-    Ok(())
+    let (mut sampler, mut take) = sampled_frames(rt.alloc())?;
+    a_full_ring_drops_samples(&rt, rt.alloc(), &mut sampler, &mut take)?;
+    a_stop_is_marked(&rt, rt.alloc(), &mut sampler, &mut take)
 }

@@ -15,6 +15,9 @@ use xcp_base::{ChannelId, ListId, Packets, StopMark};
 /// The blocks of the ring.
 const BLOCKS: usize = 8;
 
+/// The row of what is compared of a ring that fills.
+const ROW: &str = "a ring of 64 bytes";
+
 /// A sample of one packet of three bytes, which takes up three blocks.
 #[derive(Drop)]
 struct OnePacket {
@@ -146,65 +149,72 @@ fn marker_comes(rt: &impl Abort, alloc: Global, take: &mut FrameTake) -> Result<
     item_comes(rt, alloc, take, Head::Marker { list: 2 }, &[])
 }
 
+/// Of three samples of three blocks and of three stop markers two each find room. Nobody is told of
+/// them yet.
+fn a_ring_fills(rt: &impl Abort, send: &mut FrameSend)
+    ensures ring_stays { ⟦<FrameSend as SendEnd>⟧.ring send.new
+        ≡ ⟦<FrameSend as SendEnd>⟧.ring send.old }
+{
+    let offered = (offer(send, 0), offer(send, 1), offer(send, 2));
+    let what = "three samples of three blocks";
+    same(rt, offered, (true, true, false), ROW, what);
+    let marked = (offer_stop(send), offer_stop(send), offer_stop(send));
+    same(rt, marked, (true, true, false), ROW, "three stop markers");
+    same(rt, send.room(), 0, ROW, "blocks that are free");
+}
+
+/// A sample that is taken leaves its blocks to a fourth one, which nobody is told of yet.
+fn items_come_in_order(
+    rt: &impl Abort,
+    alloc: Global,
+    send: &mut FrameSend,
+    take: &mut FrameTake,
+) -> Result<(), Fail>
+    ensures send_stays { ⟦<FrameSend as SendEnd>⟧.ring send.new
+        ≡ ⟦<FrameSend as SendEnd>⟧.ring send.old }
+    ensures take_stays { ⟦<FrameTake as TakeEnd>⟧.ring take.new
+        ≡ ⟦<FrameTake as TakeEnd>⟧.ring take.old }
+{
+    sample_comes(rt, alloc, take, 0)?;
+    let what = "blocks that are free behind a sample taken";
+    same(rt, send.room(), 3, ROW, what);
+    same(rt, offer(send, 3), true, ROW, "a fourth sample");
+    sample_comes(rt, alloc, take, 1)?;
+    marker_comes(rt, alloc, take)?;
+    marker_comes(rt, alloc, take)?;
+    same(rt, take.look(), None, ROW, "what is held back");
+    let marked = send.offer_marker(StopMark::new(1, 2));
+    let what = "a stop marker that is published with it";
+    same(rt, marked, true, ROW, what);
+    sample_comes(rt, alloc, take, 3)
+}
+
+/// The last marker is left in the ring once the send end is finished.
+fn a_marker_is_left(
+    rt: &impl Abort,
+    alloc: Global,
+    send: FrameSend,
+    take: &mut FrameTake,
+) -> Result<(), Fail>
+    requires one_ring { ⟦<FrameSend as SendEnd>⟧.ring send
+        ≡ ⟦<FrameTake as TakeEnd>⟧.ring take.old }
+{
+    let mut left = send.finish().ok_or("no end was left")?;
+    let count = take.after(&mut left);
+    same(rt, count, 1, ROW, "what is left at the end");
+    marker_comes(rt, alloc, take)
+}
+
 #[test]
 fn samples_go_through_a_ring_of_frames(rt: HostRuntime) -> Result<(), Fail> {
     let (mut send, mut take) = FrameRing::new(rt.alloc(), BLOCKS * BLOCK, MIN_ROOM)?;
-    let row = "a ring of 64 bytes";
     let made = (send.longest(), send.capacity());
-    same(&rt, made, (MIN_ROOM, BLOCKS), row, "its room");
-    let offered = (
-        offer(&mut send, 0),
-        offer(&mut send, 1),
-        offer(&mut send, 2),
-    );
-    same(
-        &rt,
-        offered,
-        (true, true, false),
-        row,
-        "three samples of three blocks",
-    );
-    let marked = (
-        offer_stop(&mut send),
-        offer_stop(&mut send),
-        offer_stop(&mut send),
-    );
-    same(&rt, marked, (true, true, false), row, "three stop markers");
-    same(&rt, send.room(), 0, row, "blocks that are free");
-    same(&rt, take.look(), None, row, "what is held back at first");
+    same(&rt, made, (MIN_ROOM, BLOCKS), ROW, "its room");
+    a_ring_fills(&rt, &mut send);
+    same(&rt, take.look(), None, ROW, "what is held back at first");
     send.publish();
-    sample_comes(&rt, rt.alloc(), &mut take, 0)?;
-    same(
-        &rt,
-        send.room(),
-        3,
-        row,
-        "blocks that are free behind a sample taken",
-    );
-    same(&rt, offer(&mut send, 3), true, row, "a fourth sample");
-    sample_comes(&rt, rt.alloc(), &mut take, 1)?;
-    marker_comes(&rt, rt.alloc(), &mut take)?;
-    marker_comes(&rt, rt.alloc(), &mut take)?;
-    same(&rt, take.look(), None, row, "what is held back");
-    same(
-        &rt,
-        send.offer_marker(StopMark::new(1, 2)),
-        true,
-        row,
-        "a stop marker that is published with it",
-    );
-    sample_comes(&rt, rt.alloc(), &mut take, 3)?;
-    let Some(mut left) = send.finish() else {
-        return Err(Fail::from("no end was left"));
-    };
-    same(
-        &rt,
-        take.after(&mut left),
-        1,
-        row,
-        "what is left at the end",
-    );
-    marker_comes(&rt, rt.alloc(), &mut take)
+    items_come_in_order(&rt, rt.alloc(), &mut send, &mut take)?;
+    a_marker_is_left(&rt, rt.alloc(), send, &mut take)
 }
 
 #[test]

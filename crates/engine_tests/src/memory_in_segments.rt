@@ -1,6 +1,7 @@
 //! Segments of a controller's memory: what is read of them, and which are refused.
 use crate::same::same;
 use segments::{ReadFault, Segment, SegmentFault, Segments};
+use std::process::Abort;
 use std::test::Fail;
 
 /// A segment that these event channels may read.
@@ -50,37 +51,81 @@ type Read = (
     Result<&'static [u8], ReadFault>,
 );
 
+/// What is read of the segments that are apart.
+const OF_APART: &[Read] = &[
+    ("4 bytes at 0x1004 of 0", 0, 0x1004, 4, Ok(&[4, 5, 6, 7])),
+    ("2 bytes at 0x1008 of 0", 0, 0x1008, 2, Ok(&[8, 9])),
+    ("1 bytes at 1 of 0", 0, 1, 1, Err(ReadFault::OutOfRange)),
+    ("2 bytes at 2 of 1", 1, 2, 2, Ok(&[0xA2, 0xA3])),
+    ("1 bytes at 4 of 1", 1, 4, 1, Err(ReadFault::OutOfRange)),
+    ("1 bytes at 0 of 2", 2, 0, 1, Err(ReadFault::OutOfRange)),
+    (
+        "1 bytes at 0x200E of 0",
+        0,
+        0x200E,
+        1,
+        Err(ReadFault::OutOfRange),
+    ),
+    (
+        "2 bytes at 0x100F of 0",
+        0,
+        0x100F,
+        2,
+        Err(ReadFault::OutOfRange),
+    ),
+    ("2 bytes at 0x2000 of 0", 0, 0x2000, 2, Ok(&[0x20, 0x21])),
+];
+
+/// What is read of those that touch.
+const OF_TOUCHING: &[Read] = &[
+    ("1 bytes at 0 of 0", 0, 0, 1, Ok(&[0x77])),
+    ("2 bytes at 0x1000 of 0", 0, 0x1000, 2, Ok(&[0x10, 0x11])),
+    (
+        "3 bytes at 0x1000 of 0",
+        0,
+        0x1000,
+        3,
+        Err(ReadFault::OutOfRange),
+    ),
+    (
+        "2 bytes at 0x1001 of 0",
+        0,
+        0x1001,
+        2,
+        Err(ReadFault::OutOfRange),
+    ),
+    ("2 bytes at 0x1002 of 0", 0, 0x1002, 2, Ok(&[0x12, 0x13])),
+    (
+        "1 bytes at 0xFFFF_FFFF of 0",
+        0,
+        0xFFFF_FFFF,
+        1,
+        Ok(&[0xFF]),
+    ),
+    (
+        "1 bytes at 0x1_0000_0000 of 0",
+        0,
+        0x1_0000_0000,
+        1,
+        Err(ReadFault::OutOfRange),
+    ),
+    ("1 bytes at 0 of 1", 1, 0, 1, Ok(&[0xB0])),
+    ("2 bytes at 0x1002 of 1", 1, 0x1002, 2, Ok(&[0xB3, 0xB4])),
+];
+
+/// Compares what is read of segments with what is wanted.
+fn are_read(rt: &impl Abort, segments: &Segments, memory: &[&[u8]], reads: &[Read]) {
+    for (row, extension, address, size, wanted) in reads {
+        let read = segments.read(memory, *extension, *address, *size);
+        same(rt, read, *wanted, row, "what is read");
+    }
+}
+
 #[test]
 fn bytes_are_read_of_the_segment_that_they_lie_in(rt: HostRuntime) -> Result<(), Fail> {
     let segments = Segments::new(&apart(), 1)?;
     let memory: [&[u8]; 3] = [&LOW, &NOT_READ, &OTHER];
-    let reads: [Read; 9] = [
-        ("4 bytes at 0x1004 of 0", 0, 0x1004, 4, Ok(&[4, 5, 6, 7])),
-        ("2 bytes at 0x1008 of 0", 0, 0x1008, 2, Ok(&[8, 9])),
-        ("1 bytes at 1 of 0", 0, 1, 1, Err(ReadFault::OutOfRange)),
-        ("2 bytes at 2 of 1", 1, 2, 2, Ok(&[0xA2, 0xA3])),
-        ("1 bytes at 4 of 1", 1, 4, 1, Err(ReadFault::OutOfRange)),
-        ("1 bytes at 0 of 2", 2, 0, 1, Err(ReadFault::OutOfRange)),
-        (
-            "1 bytes at 0x200E of 0",
-            0,
-            0x200E,
-            1,
-            Err(ReadFault::OutOfRange),
-        ),
-        (
-            "2 bytes at 0x100F of 0",
-            0,
-            0x100F,
-            2,
-            Err(ReadFault::OutOfRange),
-        ),
-        ("2 bytes at 0x2000 of 0", 0, 0x2000, 2, Ok(&[0x20, 0x21])),
-    ];
-    for (row, extension, address, size, wanted) in reads {
-        let read = segments.read(&memory, extension, address, size);
-        same(&rt, read, wanted, row, "what is read");
-    }
+    are_read(&rt, &segments, &memory, OF_APART);
     let without: [&[u8]; 3] = [&LOW, &[], &OTHER];
     let read = segments.read(&without, 0, 0x2000, 2);
     same(
@@ -112,45 +157,7 @@ fn segments_that_touch_are_two(rt: HostRuntime) -> Result<(), Fail> {
         &[0xB0],
         &[0xB1, 0xB2, 0xB3, 0xB4],
     ];
-    let reads: [Read; 9] = [
-        ("1 bytes at 0 of 0", 0, 0, 1, Ok(&[0x77])),
-        ("2 bytes at 0x1000 of 0", 0, 0x1000, 2, Ok(&[0x10, 0x11])),
-        (
-            "3 bytes at 0x1000 of 0",
-            0,
-            0x1000,
-            3,
-            Err(ReadFault::OutOfRange),
-        ),
-        (
-            "2 bytes at 0x1001 of 0",
-            0,
-            0x1001,
-            2,
-            Err(ReadFault::OutOfRange),
-        ),
-        ("2 bytes at 0x1002 of 0", 0, 0x1002, 2, Ok(&[0x12, 0x13])),
-        (
-            "1 bytes at 0xFFFF_FFFF of 0",
-            0,
-            0xFFFF_FFFF,
-            1,
-            Ok(&[0xFF]),
-        ),
-        (
-            "1 bytes at 0x1_0000_0000 of 0",
-            0,
-            0x1_0000_0000,
-            1,
-            Err(ReadFault::OutOfRange),
-        ),
-        ("1 bytes at 0 of 1", 1, 0, 1, Ok(&[0xB0])),
-        ("2 bytes at 0x1002 of 1", 1, 0x1002, 2, Ok(&[0xB3, 0xB4])),
-    ];
-    for (row, extension, address, size, wanted) in reads {
-        let read = segments.read(&memory, extension, address, size);
-        same(&rt, read, wanted, row, "what is read");
-    }
+    are_read(&rt, &segments, &memory, OF_TOUCHING);
     Ok(())
 }
 

@@ -1,5 +1,5 @@
 //! Orders through a control ring, from another thread than the sampler's.
-ghost use Rattle.std.specs.Prelude.{◌≡◌, [], ◌∷◌, IfOk, IfSome};
+ghost use Rattle.std.specs.Prelude.{◌≡◌, [], ◌∷◌, IfOk, IfSome, Some};
 ghost use Rattle.transmitter.specs.Written.{transmission};
 
 use crate::same::same;
@@ -155,6 +155,24 @@ fn with_left(ctl: ControlTake, end: ControlEnded, answered: Vec<Order>) -> Vec<O
     orders
 }
 
+/// Drains and closes, and compares the account with itself.
+fn account_adds_up<T: ItemTake>(
+    rt: &impl Abort,
+    alloc: Global,
+    transmitter: Transmitter<VecOut<Global>, T>,
+    end: SamplerEnd<T::End>,
+    row: &str,
+) -> Result<(), Fail>
+    requires rings { (transmission ⟦<VecOut<Global> as Out>⟧ T.TakeEnd transmitter).rings
+        ≡ T.End.ring end.end ∷ [] }
+{
+    let report = close_one(alloc, transmitter, end)?;
+    let line = report.lists.first().copied().ok_or("no line")?;
+    let all = line.written.saturating_add(line.dropped);
+    same(rt, (all, line.left), (line.due, 0), row, "the account");
+    Ok(())
+}
+
 /// Drains and closes, and compares the orders that were answered and left with those that were
 /// sent, and the account with itself. The first order is sent before the sampler's first look, so
 /// some are answered, however the threads run.
@@ -171,20 +189,58 @@ fn settle<T: ItemTake>(
 {
     let (end, take, answered) = sampled;
     let (ended, transmitter, sent) = ordered;
-    same(
-        rt,
-        answered.is_empty(),
-        false,
-        row,
-        "whether none is answered",
-    );
-    let report = close_one(alloc, transmitter, end)?;
-    let line = report.lists.first().copied().ok_or("no line")?;
-    let all = line.written.saturating_add(line.dropped);
-    same(rt, (all, line.left), (line.due, 0), row, "the account");
+    let is_empty = answered.is_empty();
+    same(rt, is_empty, false, row, "whether none is answered");
+    account_adds_up(rt, alloc, transmitter, end, row)?;
     let orders = with_left(take, ended, answered);
     same(rt, orders.as_slice(), sent.as_slice(), row, "the orders");
     Ok(())
+}
+
+/// A control ring of four places in which a stop waits: its send end with the orders that were
+/// sent, and its take end with those that were answered, each with room for all that follow.
+fn first_order(
+    rt: &impl Abort,
+    alloc: Global,
+    row: &str,
+) -> Result<((ControlSend, Vec<Order>), (ControlTake, Vec<Order>)), Fail>
+    ensures { IfOk result (λ r. r.0.0.ring ≡ r.1.0.ring) }
+{
+    let (mut send, take) = ControlRing::new(alloc, 4)?;
+    let answered = Vec::with_capacity(alloc, TRIES)?;
+    let mut sent = Vec::with_capacity(alloc, TRIES)?;
+    let stop = Order::Stop(0);
+    same(rt, send.send(stop), Ok(()), row, "the first order");
+    sent.push(stop)?;
+    Ok(((send, sent), (take, answered)))
+}
+
+/// What came back of a sampler's thread, if the sampler is finished.
+fn finished<E: RingEnd>(
+    sampled: Sampled<E>,
+) -> Result<(SamplerEnd<E>, ControlTake, Vec<Order>), Fail>
+    ensures end { IfOk result (λ r. sampled.0 ≡ Some r.0) }
+    ensures take { IfOk result (λ r. r.1 ≡ sampled.1) }
+{
+    let (end, take, answered) = sampled;
+    match end {
+        Some(end) => Ok((end, take, answered)),
+        None => Err(Fail::from("a sampler that isn't finished")),
+    }
+}
+
+/// What came back of a master's, if its end of the control ring is finished.
+fn ended<T: ItemTake>(
+    ordered: Ordered<T>,
+) -> Result<(ControlEnded, Transmitter<VecOut<Global>, T>, Vec<Order>), Fail>
+    ensures end { IfOk result (λ r. ordered.0 ≡ Some r.0) }
+    ensures transmitter { IfOk result (λ r. r.1 ≡ ordered.1) }
+{
+    let (end, transmitter, sent) = ordered;
+    match end {
+        Some(end) => Ok((end, transmitter, sent)),
+        None => Err(Fail::from("an end that isn't finished")),
+    }
 }
 
 /// Runs a sampler in a thread of its own, and a master's orders beside it, through a control ring
@@ -204,21 +260,11 @@ where
     requires rings { (transmission ⟦<VecOut<Global> as Out>⟧ T.TakeEnd transmitter).rings
         ≡ S.ring sampler.end ∷ [] }
 {
-    let (mut send, take) = ControlRing::new(alloc, 4)?;
-    let answered = Vec::with_capacity(alloc, TRIES)?;
-    let mut sent = Vec::with_capacity(alloc, TRIES)?;
-    let stop = Order::Stop(0);
-    same(rt, send.send(stop), Ok(()), row, "the first order");
-    sent.push(stop)?;
+    let ((send, sent), (take, answered)) = first_order(rt, alloc, row)?;
     let sampling = (sampler, take, answered);
     let ordering = (send, transmitter, sent);
     let (sampled, ordered) = sample_beside(rt, sampling, ordering);
-    let (end, take, answered) = sampled;
-    let (ended, transmitter, sent) = ordered;
-    let end = end.ok_or("a sampler that isn't finished")?;
-    let ended = ended.ok_or("an end that isn't finished")?;
-    let ordered = (ended, transmitter, sent);
-    settle(rt, alloc, (end, take, answered), ordered, row)
+    settle(rt, alloc, finished(sampled)?, ended(ordered)?, row)
 }
 
 /// The sampler of a store of one event channel, and the transmitter of its ring, which has `cap`

@@ -155,8 +155,80 @@ fn closes<T: ItemTake>(
     Ok(())
 }
 
+/// Hands `close` no end, and the first of two; the two come back.
+fn refuses_few<T: ItemTake>(
+    rt: &impl Abort,
+    alloc: Global,
+    transmitter: Writing<T>,
+    ends: Vec<SamplerEnd<T::End>>,
+    row: &str,
+) -> Result<(Writing<T>, Vec<SamplerEnd<T::End>>), Fail>
+    ensures back { IfOk result (λ r. r.0 ≡ transmitter) }
+{
+    let (transmitter, _) = refused(rt, alloc, transmitter, Vec::new(alloc), row)?;
+    let mut ends = ends;
+    let second = ends.pop().ok_or("no end")?;
+    let (transmitter, mut ends) = refused(rt, alloc, transmitter, ends, row)?;
+    ends.push(second)?;
+    Ok((transmitter, ends))
+}
+
+/// Hands `close` two ends and one more; the three come back.
+fn refuses_three<T: ItemTake>(
+    rt: &impl Abort,
+    alloc: Global,
+    transmitter: Writing<T>,
+    ends: Vec<SamplerEnd<T::End>>,
+    third: SamplerEnd<T::End>,
+    row: &str,
+) -> Result<(Writing<T>, Vec<SamplerEnd<T::End>>), Fail>
+    ensures back { IfOk result (λ r. r.0 ≡ transmitter) }
+{
+    let mut ends = ends;
+    ends.push(third)?;
+    refused(rt, alloc, transmitter, ends, row)
+}
+
+/// Hands `close` the first two of three ends in falling order, and two of one event channel.
+fn refuses_order<T: ItemTake>(
+    rt: &impl Abort,
+    alloc: Global,
+    transmitter: Writing<T>,
+    ends: Vec<SamplerEnd<T::End>>,
+    row: &str,
+) -> Result<Writing<T>, Fail>
+    ensures back { IfOk result (λ r. r ≡ transmitter) }
+{
+    let mut ends = ends;
+    let third = ends.pop().ok_or("no end")?;
+    ends.as_mut_slice().reverse();
+    let (transmitter, mut ends) = refused(rt, alloc, transmitter, ends, row)?;
+    let _ = ends.pop();
+    ends.push(third)?;
+    let (transmitter, _) = refused(rt, alloc, transmitter, ends, row)?;
+    Ok(transmitter)
+}
+
 /// Hands an engine's `close` no end, one, three, two in falling order and two of one event channel,
-/// all of other engines; then its own.
+/// all of other engines.
+fn refuses_others<K: Ring>(
+    rt: &impl Abort,
+    alloc: Global,
+    cap: usize,
+    transmitter: Writing<K::Take>,
+    row: &str,
+) -> Result<Writing<K::Take>, Fail>
+    ensures back { IfOk result (λ r. r ≡ transmitter) }
+{
+    let (ends, _) = finished(alloc, triggered::<K>(alloc, cap)?)?;
+    let (mut more, _) = finished(alloc, triggered::<K>(alloc, cap)?)?;
+    let third = more.pop().ok_or("no end")?;
+    let (transmitter, ends) = refuses_few(rt, alloc, transmitter, ends, row)?;
+    let (transmitter, ends) = refuses_three(rt, alloc, transmitter, ends, third, row)?;
+    refuses_order(rt, alloc, transmitter, ends, row)
+}
+
+/// Hands an engine's `close` ends of other engines, then its own.
 fn closes_with_its_own<K: Ring>(
     rt: &impl Abort,
     alloc: Global,
@@ -164,20 +236,7 @@ fn closes_with_its_own<K: Ring>(
     row: &str,
 ) -> Result<(), Fail> {
     let (own, transmitter) = finished(alloc, triggered::<K>(alloc, cap)?)?;
-    let (mut ends, _) = finished(alloc, triggered::<K>(alloc, cap)?)?;
-    let (mut more, _) = finished(alloc, triggered::<K>(alloc, cap)?)?;
-    let (transmitter, _) = refused(rt, alloc, transmitter, Vec::new(alloc), row)?;
-    let second = ends.pop().ok_or("no end")?;
-    let (transmitter, mut ends) = refused(rt, alloc, transmitter, ends, row)?;
-    ends.push(second)?;
-    ends.push(more.pop().ok_or("no end")?)?;
-    let (transmitter, mut ends) = refused(rt, alloc, transmitter, ends, row)?;
-    let other = ends.pop().ok_or("no end")?;
-    ends.as_mut_slice().reverse();
-    let (transmitter, mut ends) = refused(rt, alloc, transmitter, ends, row)?;
-    let _ = ends.pop();
-    ends.push(other)?;
-    let (transmitter, _) = refused(rt, alloc, transmitter, ends, row)?;
+    let transmitter = refuses_others::<K>(rt, alloc, cap, transmitter, row)?;
     closes(rt, alloc, transmitter, own, row)
 }
 

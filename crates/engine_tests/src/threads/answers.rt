@@ -1,10 +1,14 @@
 //! What a gate is told of pumps: the whole answer of each, once.
-use crate::threads::one_by_one::OneByOne;
 use crate::same::same;
+use crate::threads::one_by_one::OneByOne;
 use crate::threads::text::{TWO_LISTS, TWO_PLACES, TWO_RINGS_OF_BYTES, run_of};
 use daq_run::run_threads;
 use frame_writer::VecOut;
+use std::alloc::Global;
+use std::process::Abort;
+use std::sync::Wait;
 use std::test::Fail;
+use std::thread::Threads;
 use transmitter::Pumped;
 
 /// Steps of one event channel. The last isn't looked at, since its thread may have ended before a
@@ -36,16 +40,23 @@ const WANTED: [Pumped; 4] = [
     },
 ];
 
+/// Runs the steps over these rings, and compares what the gate was told.
+fn pumps_are_told<R: Threads + Wait + Sync + Abort>(
+    rt: &R,
+    alloc: Global,
+    rings: &str,
+) -> Result<(), Fail> {
+    let run = run_of(alloc, &[rings, TWO_LISTS, STEPS])?;
+    let gate = OneByOne::of(&WANTED);
+    if let Err((fault, _)) = run_threads(rt, alloc, &run, VecOut::new(alloc), &gate) {
+        return Err(Fail::from(fault));
+    }
+    same(rt, gate.told(), (4, 0), rings, "told, otherwise");
+    Ok(())
+}
+
 #[test]
 fn each_pump_is_told_once_with_its_whole_answer(rt: HostRuntime) -> Result<(), Fail> {
-    for rings in [TWO_PLACES, TWO_RINGS_OF_BYTES] {
-        let run = run_of(rt.alloc(), &[rings, TWO_LISTS, STEPS])?;
-        let gate = OneByOne::of(&WANTED);
-        let out = VecOut::new(rt.alloc());
-        if let Err((fault, _)) = run_threads(&rt, rt.alloc(), &run, out, &gate) {
-            return Err(Fail::from(fault));
-        }
-        same(&rt, gate.told(), (4, 0), rings, "told, otherwise");
-    }
-    Ok(())
+    pumps_are_told(&rt, rt.alloc(), TWO_PLACES)?;
+    pumps_are_told(&rt, rt.alloc(), TWO_RINGS_OF_BYTES)
 }

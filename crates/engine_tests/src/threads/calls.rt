@@ -1,13 +1,17 @@
 //! What threads show of each other, by a gate that lets one step go after another; and in which
 //! order the gate is called, beside the steps and the pumps.
-use crate::threads::in_order::{InOrder, Wrong};
 use crate::same::same;
+use crate::threads::in_order::{InOrder, Wrong};
 use crate::threads::text::{
     BIG_LIST, ONE_BIG_PLACE, TWO_LISTS, TWO_PLACES, TWO_RINGS_OF_BYTES, ZEROS_31, ZEROS_32, run_of,
 };
 use daq_run::run_threads;
 use frame_writer::VecOut;
+use std::alloc::Global;
+use std::process::Abort;
+use std::sync::Wait;
 use std::test::Fail;
+use std::thread::Threads;
 
 /// Two triggers of each of two event channels.
 const TWO_TRIGGERS_EACH: &str =
@@ -76,24 +80,37 @@ const ROWS: [Row; 3] = [
     },
 ];
 
+/// Compares what stands behind the replies with the frames that are wanted.
+fn frames_are(rt: &impl Abort, bytes: &[u8], row: Row<'_>) {
+    let behind = bytes.get(row.replies..).unwrap_or(&[]);
+    let front = behind.get(..row.frames.len());
+    let wanted = (row.written, Some(row.frames));
+    same(rt, (behind.len(), front), wanted, row.name, "the frames");
+}
+
+/// Runs a row, and compares what its gate was told and what is written.
+fn runs_in_order<R: Threads + Wait + Sync + Abort>(
+    rt: &R,
+    alloc: Global,
+    row: Row<'_>,
+) -> Result<(), Fail> {
+    let run = run_of(alloc, row.parts)?;
+    let gate = InOrder::of(rt, row.order, row.packets);
+    let outcome = match run_threads(rt, alloc, &run, VecOut::new(alloc), &gate) {
+        Ok(outcome) => outcome,
+        Err((fault, _)) => return Err(Fail::from(fault)),
+    };
+    let steps = row.order.len() as u64;
+    let told = (Wrong::Nothing, steps, steps);
+    same(rt, gate.told(), told, row.name, "the calls");
+    frames_are(rt, outcome.out.bytes(), row);
+    Ok(())
+}
+
 #[test]
 fn each_step_stands_between_its_calls_and_each_pump_is_told(rt: HostRuntime) -> Result<(), Fail> {
     for row in ROWS {
-        let run = run_of(rt.alloc(), row.parts)?;
-        let gate = InOrder::of(&rt, row.order, row.packets);
-        let out = VecOut::new(rt.alloc());
-        let outcome = match run_threads(&rt, rt.alloc(), &run, out, &gate) {
-            Ok(outcome) => outcome,
-            Err((fault, _)) => return Err(Fail::from(fault)),
-        };
-        let steps = row.order.len() as u64;
-        let told = (Wrong::Nothing, steps, steps);
-        same(&rt, gate.told(), told, row.name, "the calls");
-        let bytes = outcome.out.bytes();
-        let behind = bytes.get(row.replies..).unwrap_or(&[]);
-        let front = behind.get(..row.frames.len());
-        let wanted = (row.written, Some(row.frames));
-        same(&rt, (behind.len(), front), wanted, row.name, "the frames");
+        runs_in_order(&rt, rt.alloc(), row)?;
     }
     Ok(())
 }

@@ -4,6 +4,7 @@ use crate::same::same;
 use captured_samples::{KeptSamples, SlaveSamples};
 use captured_session::{CapturedList, CapturedSession, Element, Form, Side, list_in};
 use std::alloc::Global;
+use std::process::Abort;
 use std::test::Fail;
 
 /// A command, and its reply.
@@ -95,28 +96,50 @@ fn list_of(
     }
 }
 
+/// Hears what a slave says in a frame of this number, and hands its samples over.
+fn hear_slave(
+    samples: &mut SlaveSamples,
+    kept: &mut KeptSamples,
+    counter: u16,
+    packet: &[u8],
+) -> Result<(), Fail> {
+    match samples.hear_slave(counter, packet, kept) {
+        Ok(()) => Ok(()),
+        Err(_) => Err(Fail::from("a frame that can't be heard")),
+    }
+}
+
+/// Hears a command and its reply, each in a frame of this number.
+fn hear_both(
+    samples: &mut SlaveSamples,
+    kept: &mut KeptSamples,
+    counter: u16,
+    exchange: Exchange<'_>,
+) -> Result<(), Fail> {
+    let (command, reply) = exchange;
+    let Ok(()) = samples.hear_master(counter, command) else {
+        return Err(Fail::from("a frame that can't be heard"));
+    };
+    hear_slave(samples, kept, counter, reply)
+}
+
+/// Hears Intel's set-up, and a sample of two packets behind it.
+fn hear_sample(samples: &mut SlaveSamples, kept: &mut KeptSamples) -> Result<(), Fail> {
+    let mut counter: u16 = 0;
+    for exchange in INTEL {
+        hear_both(samples, kept, counter, exchange)?;
+        counter = counter.wrapping_add(1);
+    }
+    hear_slave(samples, kept, counter, &[7, 0, 0, 0, 0, 1, 2, 3, 4, 5])?;
+    hear_slave(samples, kept, counter.wrapping_add(1), &[8, 6, 7])
+}
+
 /// How many samples and frames were told, and how many were handed over, behind Intel's set-up and
 /// a sample.
 fn told_samples(alloc: Global) -> Result<(u64, u64, usize, bool), Fail> {
     let mut samples = SlaveSamples::new(alloc, Form::UNTOLD);
     let mut kept = KeptSamples::new(alloc);
-    let mut counter: u16 = 0;
-    for (command, reply) in &INTEL {
-        let Ok(()) = samples.hear_master(counter, command) else {
-            return Err(Fail::from("a frame that can't be heard"));
-        };
-        let Ok(()) = samples.hear_slave(counter, reply, &mut kept) else {
-            return Err(Fail::from("a frame that can't be heard"));
-        };
-        counter = counter.wrapping_add(1);
-    }
-    let packets: [&[u8]; 2] = [&[7, 0, 0, 0, 0, 1, 2, 3, 4, 5], &[8, 6, 7]];
-    for packet in packets {
-        let Ok(()) = samples.hear_slave(counter, packet, &mut kept) else {
-            return Err(Fail::from("a frame that can't be heard"));
-        };
-        counter = counter.wrapping_add(1);
-    }
+    hear_sample(&mut samples, &mut kept)?;
     let tallies = samples.tallies();
     Ok((
         tallies.samples,
@@ -136,50 +159,73 @@ fn element(bit: u8, size: u8, extension: u8, address: u32) -> Element {
     }
 }
 
+/// What is known of a list: its mode's bits, event channel and prescaler, its first PID, and the
+/// entries of its first ODT.
+type Known<'k> = ((u8, u16, u8), Option<u8>, &'k [Element]);
+
+/// Compares what a list shows with what is known of it.
+fn list_shows(rt: &impl Abort, list: &CapturedList, known: Known<'_>, row: &str) {
+    let (wanted, first_pid, entries) = known;
+    let mode = list.mode();
+    let numbers = (mode.bits, mode.channel, mode.prescaler);
+    same(rt, numbers, wanted, row, "mode");
+    same(rt, list.first_pid(), first_pid, row, "first PID");
+    if list.odts() > 0 {
+        same(rt, list.entries(0), entries, row, "entries");
+    }
+}
+
+/// Compares a list of the session of commands, each with its reply.
+fn session_has(
+    rt: &impl Abort,
+    alloc: Global,
+    exchanges: &[Exchange<'_>],
+    number: u16,
+    known: Known<'_>,
+    row: &str,
+) -> Result<(), Fail> {
+    let session = session_of(alloc, exchanges)?;
+    let Some(list) = list_of(alloc, &session, number)? else {
+        return Err(Fail::from("a list of which not all is known"));
+    };
+    list_shows(rt, &list, known, row);
+    Ok(())
+}
+
+/// Whether all is known of a list.
+fn is_known(alloc: Global, session: &CapturedSession, list: u16) -> Result<bool, Fail> {
+    Ok(list_of(alloc, session, list)?.is_some())
+}
+
+/// Says what is said once a set-up is there: compares the command that waits for its reply, and
+/// whether the list is still known.
+fn goes_on(rt: &impl Abort, alloc: Global, session: &mut CapturedSession) -> Result<(), Fail> {
+    for (side, packet, waiting, wanted, row) in SAID {
+        hear(session, side, packet)?;
+        same(rt, session.waiting(), waiting, row, "waiting");
+        same(rt, is_known(alloc, session, 0)?, wanted, row, "known");
+    }
+    Ok(())
+}
+
 #[test]
 fn a_session_is_known(rt: HostRuntime) -> Result<(), Fail> {
+    let alloc = rt.alloc();
     let intel = [
         element(0xFF, 4, 0, 0x4030_2010),
         element(3, 1, 5, 0x4030_2011),
     ];
+    let known: Known<'_> = ((0x10, 0x0201, 3), Some(7), &intel);
+    session_has(&rt, alloc, &INTEL, 0, known, "Intel")?;
     let motorola = [
         element(0xFF, 4, 6, 0x4030_2010),
         element(0xFF, 2, 0, 0x4030_2014),
         element(0xFF, 1, 0, 0x4030_2016),
     ];
-    let rows: [(
-        &[Exchange<'_>],
-        u16,
-        (u8, u16, u8),
-        Option<u8>,
-        &[Element],
-        &str,
-    ); 2] = [
-        (&INTEL, 0, (0x10, 0x0201, 3), Some(7), &intel, "Intel"),
-        (&MOTOROLA, 0x0102, (0, 5, 1), None, &motorola, "Motorola"),
-    ];
-    for (exchanges, number, wanted, first_pid, entries, row) in rows {
-        let session = session_of(rt.alloc(), exchanges)?;
-        let Some(list) = list_of(rt.alloc(), &session, number)? else {
-            return Err(Fail::from("a list of which not all is known"));
-        };
-        let mode = list.mode();
-        let numbers = (mode.bits, mode.channel, mode.prescaler);
-        same(&rt, numbers, wanted, row, "mode");
-        same(&rt, list.first_pid(), first_pid, row, "first PID");
-        if list.odts() > 0 {
-            same(&rt, list.entries(0), entries, row, "entries");
-        }
-    }
-    let mut session = session_of(rt.alloc(), &INTEL)?;
-    for (side, packet, waiting, is_known, row) in SAID {
-        hear(&mut session, side, packet)?;
-        same(&rt, session.waiting(), waiting, row, "waiting");
-        let found = list_of(rt.alloc(), &session, 0)?;
-        same(&rt, found.is_some(), is_known, row, "known");
-    }
-    let row = "a sample";
-    let told = told_samples(rt.alloc())?;
-    same(&rt, told, (1, 17, 1, false), row, "samples told");
+    let known: Known<'_> = ((0, 5, 1), None, &motorola);
+    session_has(&rt, alloc, &MOTOROLA, 0x0102, known, "Motorola")?;
+    goes_on(&rt, alloc, &mut session_of(alloc, &INTEL)?)?;
+    let told = told_samples(alloc)?;
+    same(&rt, told, (1, 17, 1, false), "a sample", "samples told");
     Ok(())
 }

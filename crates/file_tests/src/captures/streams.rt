@@ -3,6 +3,7 @@
 use crate::same::same;
 use datagrams::{NextBytes, Segment, TcpStream};
 use std::alloc::Global;
+use std::process::Abort;
 use std::test::Fail;
 
 /// A segment without flags.
@@ -44,50 +45,73 @@ fn hands_out(alloc: Global, stream: &mut TcpStream) -> Result<(usize, usize, usi
     Ok((gaps, steps, bytes.len()))
 }
 
-#[test]
-fn a_stream_is_handed_out_until_it_is_over(rt: HostRuntime) -> Result<(), Fail> {
-    let alloc = rt.alloc();
-    let mut stream = TcpStream::new(alloc);
+/// Takes a segment, and compares what is handed out behind it.
+fn comes(
+    rt: &impl Abort,
+    alloc: Global,
+    stream: &mut TcpStream,
+    segment: Segment<'_>,
+    wanted: (usize, usize, usize),
+    row: &str,
+) -> Result<(), Fail> {
+    take(stream, segment)?;
+    same(rt, hands_out(alloc, stream)?, wanted, row, "steps");
+    Ok(())
+}
+
+/// A stream is over once all is handed out that stands before its end.
+fn ends(rt: &impl Abort, alloc: Global, stream: &mut TcpStream) -> Result<(), Fail> {
     let mut syn = segment(99, b"");
     syn.begins = true;
     let mut fin = segment(102, b"cd");
     fin.ends = true;
-    let mut reset = segment(5020, b"uv");
-    reset.breaks_off = true;
     let rows = [
         (syn, (0, 0, 0), false, "SYN"),
         (fin, (0, 0, 0), false, "FIN, out of order"),
         (segment(100, b"ab"), (0, 2, 4), true, "what was missing"),
     ];
     for (came, wanted, is_over, row) in rows {
-        take(&mut stream, came)?;
-        same(&rt, hands_out(alloc, &mut stream)?, wanted, row, "steps");
-        same(&rt, stream.is_over(), is_over, row, "over");
+        comes(rt, alloc, stream, came, wanted, row)?;
+        same(rt, stream.is_over(), is_over, row, "over");
     }
-    let mut stream = TcpStream::new(alloc);
+    Ok(())
+}
+
+/// A stream that breaks off hands out what waits behind holes.
+fn breaks_off(rt: &impl Abort, alloc: Global, stream: &mut TcpStream) -> Result<(), Fail> {
+    let mut reset = segment(5020, b"uv");
+    reset.breaks_off = true;
     let rows = [
         (segment(5000, b"ab"), (0, 1, 2), "the first of a capture"),
         (segment(5014, b"op"), (0, 0, 0), "behind a hole"),
         (reset, (2, 2, 4), "RST"),
     ];
     for (came, wanted, row) in rows {
-        take(&mut stream, came)?;
-        same(&rt, hands_out(alloc, &mut stream)?, wanted, row, "steps");
+        comes(rt, alloc, stream, came, wanted, row)?;
     }
-    same(&rt, stream.is_over(), true, "RST", "over");
-    let mut stream = TcpStream::new(alloc);
-    let payload = [7; 65_536];
-    take(&mut stream, segment(0, b"ab"))?;
-    let row = "the first of a capture";
-    same(&rt, hands_out(alloc, &mut stream)?, (0, 1, 2), row, "steps");
-    for i in 0..64 {
-        take(&mut stream, segment(4 + 65_536 * i, &payload))?;
-        let row = "65,536 bytes more behind a hole";
-        same(&rt, hands_out(alloc, &mut stream)?, (0, 0, 0), row, "steps");
-    }
-    take(&mut stream, segment(4_194_308, b"c"))?;
-    let row = "one byte more";
-    let wanted = (1, 65, 4_194_305);
-    same(&rt, hands_out(alloc, &mut stream)?, wanted, row, "steps");
+    same(rt, stream.is_over(), true, "RST", "over");
     Ok(())
+}
+
+/// A hole is passed once over 4 MiB wait behind it.
+fn passes_a_hole(rt: &impl Abort, alloc: Global, stream: &mut TcpStream) -> Result<(), Fail> {
+    let payload = [7; 65_536];
+    let row = "the first of a capture";
+    comes(rt, alloc, stream, segment(0, b"ab"), (0, 1, 2), row)?;
+    let row = "65,536 bytes more behind a hole";
+    for i in 0..64 {
+        let came = segment(4 + 65_536 * i, &payload);
+        comes(rt, alloc, stream, came, (0, 0, 0), row)?;
+    }
+    let wanted = (1, 65, 4_194_305);
+    let came = segment(4_194_308, b"c");
+    comes(rt, alloc, stream, came, wanted, "one byte more")
+}
+
+#[test]
+fn a_stream_is_handed_out_until_it_is_over(rt: HostRuntime) -> Result<(), Fail> {
+    let alloc = rt.alloc();
+    ends(&rt, alloc, &mut TcpStream::new(alloc))?;
+    breaks_off(&rt, alloc, &mut TcpStream::new(alloc))?;
+    passes_a_hole(&rt, alloc, &mut TcpStream::new(alloc))
 }

@@ -198,29 +198,48 @@ fn ranges(alloc: Global) -> Result<Vec<u8>, AllocError> {
     Ok(out)
 }
 
+/// That a block has the bytes of a table, if there is memory for it.
+fn block_is(
+    rt: &impl Abort,
+    name: &str,
+    block: Result<Vec<u8>, AllocError>,
+    wanted: &[u8],
+) -> Result<(), Fail> {
+    same(rt, name, &block?, wanted);
+    Ok(())
+}
+
+/// The blocks of a file, its groups and their data.
+fn groups_are_those_of_tables(rt: &impl Abort, alloc: Global) -> Result<(), Fail> {
+    block_is(rt, "HD", header(alloc), worked::HEADER)?;
+    block_is(rt, "FH", history(alloc), worked::HISTORY)?;
+    block_is(rt, "DG", data_group(alloc), worked::DATA_GROUP)?;
+    block_is(rt, "CG", channel_group(alloc), worked::CHANNEL_GROUP)?;
+    block_is(rt, "DL", list(alloc), worked::LIST)
+}
+
+/// The blocks of channels and texts.
+fn channels_are_those_of_tables(rt: &impl Abort, alloc: Global) -> Result<(), Fail> {
+    block_is(rt, "CN, a value", channel(alloc, &VALUE), worked::CHANNEL)?;
+    block_is(rt, "CN, the time", channel(alloc, &MASTER), worked::MASTER)?;
+    block_is(rt, "CN, the index", channel(alloc, &INDEX), worked::INDEX)?;
+    block_is(rt, "TX", text(alloc, "speed"), worked::TEXT)?;
+    block_is(rt, "MD", comment(alloc, "<TX>°C é</TX>"), worked::COMMENT)
+}
+
+/// The blocks of conversions.
+fn conversions_are_those_of_tables(rt: &impl Abort, alloc: Global) -> Result<(), Fail> {
+    block_is(rt, "CC, linear", linear(alloc), worked::LINEAR)?;
+    block_is(rt, "CC, rational", rational(alloc), worked::RATIONAL)?;
+    block_is(rt, "CC, texts", texts(alloc), worked::TEXTS)?;
+    block_is(rt, "CC, ranges", ranges(alloc), worked::RANGES)
+}
+
 #[test]
 fn each_block_has_the_bytes_of_its_table(rt: HostRuntime) -> Result<(), Fail> {
-    let alloc = rt.alloc();
-    let rows = [
-        ("HD", header(alloc)?, worked::HEADER),
-        ("FH", history(alloc)?, worked::HISTORY),
-        ("DG", data_group(alloc)?, worked::DATA_GROUP),
-        ("CG", channel_group(alloc)?, worked::CHANNEL_GROUP),
-        ("CN, a value", channel(alloc, &VALUE)?, worked::CHANNEL),
-        ("CN, the time", channel(alloc, &MASTER)?, worked::MASTER),
-        ("CN, the index", channel(alloc, &INDEX)?, worked::INDEX),
-        ("TX", text(alloc, "speed")?, worked::TEXT),
-        ("MD", comment(alloc, "<TX>°C é</TX>")?, worked::COMMENT),
-        ("CC, linear", linear(alloc)?, worked::LINEAR),
-        ("CC, rational", rational(alloc)?, worked::RATIONAL),
-        ("CC, texts", texts(alloc)?, worked::TEXTS),
-        ("CC, ranges", ranges(alloc)?, worked::RANGES),
-        ("DL", list(alloc)?, worked::LIST),
-    ];
-    for (name, bytes, wanted) in &rows {
-        same(&rt, name, bytes, wanted);
-    }
-    Ok(())
+    groups_are_those_of_tables(&rt, rt.alloc())?;
+    channels_are_those_of_tables(&rt, rt.alloc())?;
+    conversions_are_those_of_tables(&rt, rt.alloc())
 }
 
 #[test]

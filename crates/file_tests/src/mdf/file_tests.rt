@@ -90,41 +90,63 @@ pub const QUARTERS: [u8; 18] = [
 
 pub const LATER: [u8; 9] = [0, 0, 0, 0, 0, 0, 0xe8, 0x3f, 1];
 
-fn streamed(alloc: Global) -> Result<Vec<StreamedGroup>, AllocError> {
+/// The channels of a group of two.
+pub fn two(alloc: Global) -> Result<Vec<NewChannel>, AllocError> {
     let mut out = Vec::new(alloc);
-    let mut first = Vec::new(alloc);
-    first.push(time(alloc)?)?;
-    first.push(state(alloc)?)?;
-    let mut second = Vec::new(alloc);
-    second.push(speed(alloc)?)?;
+    out.push(time(alloc)?)?;
+    out.push(state(alloc)?)?;
+    Ok(out)
+}
+
+/// The channel of a group of one.
+pub fn one(alloc: Global) -> Result<Vec<NewChannel>, AllocError> {
+    let mut out = Vec::new(alloc);
+    out.push(speed(alloc)?)?;
+    Ok(out)
+}
+
+/// A group of these channels, whose records are `len` bytes in blocks at these places.
+fn group(
+    alloc: Global,
+    name: &str,
+    channels: Vec<NewChannel>,
+    record_bytes: u32,
+    listed: &[ListedData],
+    len: u64,
+) -> Result<StreamedGroup, AllocError> {
     let mut blocks = Vec::new(alloc);
-    blocks.push(ListedData {
+    blocks.extend_from_slice(listed)?;
+    Ok(StreamedGroup {
+        name: name.to_owned(alloc)?,
+        channels,
+        record_bytes,
+        blocks,
+        len,
+    })
+}
+
+/// The blocks of the group of two.
+const FIRST_BLOCKS: [ListedData; 2] = [
+    ListedData {
         place: 168,
         offset: 0,
-    })?;
-    blocks.push(ListedData {
+    },
+    ListedData {
         place: 216,
         offset: 18,
-    })?;
-    out.push(StreamedGroup {
-        name: "10 ms".to_owned(alloc)?,
-        channels: first,
-        record_bytes: 9,
-        blocks,
-        len: 27,
-    })?;
-    let mut blocks = Vec::new(alloc);
-    blocks.push(ListedData {
-        place: 256,
-        offset: 0,
-    })?;
-    out.push(StreamedGroup {
-        name: "event".to_owned(alloc)?,
-        channels: second,
-        record_bytes: 2,
-        blocks,
-        len: 2,
-    })?;
+    },
+];
+
+/// The block of the group of one.
+const SECOND_BLOCK: [ListedData; 1] = [ListedData {
+    place: 256,
+    offset: 0,
+}];
+
+fn streamed(alloc: Global) -> Result<Vec<StreamedGroup>, AllocError> {
+    let mut out = Vec::new(alloc);
+    out.push(group(alloc, "10 ms", two(alloc)?, 9, &FIRST_BLOCKS, 27)?)?;
+    out.push(group(alloc, "event", one(alloc)?, 2, &SECOND_BLOCK, 2)?)?;
     Ok(out)
 }
 

@@ -1,6 +1,6 @@
 //! Samples in a measurement file, and what the file is told by.
-use crate::mdf::group_tests::{RECORD, SAMPLE, columns};
 use crate::holds::holds;
+use crate::mdf::group_tests::{RECORD, SAMPLE, columns};
 use mdf_blocks::{Time, Zone};
 use mdf_file::{About, MdfFault, MemoryOut};
 use mdf_groups::{
@@ -20,15 +20,28 @@ fn about(alloc: Global) -> Result<About, AllocError> {
     })
 }
 
-/// A file of two groups, each with one sample; what is refused in between leaves no trace.
-fn written(alloc: Global, columns: &[PlacedColumn<'_>]) -> Result<MemoryOut, GroupFault> {
-    let mut file = GroupFile::new(alloc, about(alloc)?, MemoryOut::new(alloc))?;
+/// Adds a group of samples with a time and one of samples without; one whose samples are too short
+/// is refused before.
+fn add_two(
+    alloc: Global,
+    file: &mut GroupFile<MemoryOut>,
+    columns: &[PlacedColumn<'_>],
+) -> Result<(usize, usize), GroupFault> {
     let short = file.add(group_name(alloc, 0, 1)?, Front::Seconds, 9, columns);
     if short != Err(GroupFault::Form(FormFault::Outside)) {
         return Err(GroupFault::File(MdfFault::Unwritten));
     }
     let timed = file.add(group_name(alloc, 0, 1)?, Front::Seconds, 10, columns)?;
     let untimed = file.add(group_name(alloc, 1, 1)?, Front::Nothing, 10, columns)?;
+    Ok((timed, untimed))
+}
+
+/// Hands each of two groups a sample, and between them two that are refused.
+fn hand_samples(
+    file: &mut GroupFile<MemoryOut>,
+    timed: usize,
+    untimed: usize,
+) -> Result<(), GroupFault> {
     file.sample(untimed, RecordTime::Unknown, 3, &SAMPLE)?;
     let late = file.sample(timed, RecordTime::Unknown, 0, &SAMPLE);
     if late != Err(GroupFault::Record(RecordFault::WrongTime)) {
@@ -37,7 +50,14 @@ fn written(alloc: Global, columns: &[PlacedColumn<'_>]) -> Result<MemoryOut, Gro
     if file.sample(2, RecordTime::Unknown, 0, &SAMPLE) != Err(GroupFault::File(MdfFault::NoGroup)) {
         return Err(GroupFault::File(MdfFault::Unwritten));
     }
-    file.sample(timed, RecordTime::Seconds(1.5), 1, &SAMPLE)?;
+    file.sample(timed, RecordTime::Seconds(1.5), 1, &SAMPLE)
+}
+
+/// A file of two groups, each with one sample; what is refused in between leaves no trace.
+fn written(alloc: Global, columns: &[PlacedColumn<'_>]) -> Result<MemoryOut, GroupFault> {
+    let mut file = GroupFile::new(alloc, about(alloc)?, MemoryOut::new(alloc))?;
+    let (timed, untimed) = add_two(alloc, &mut file, columns)?;
+    hand_samples(&mut file, timed, untimed)?;
     file.finish()
 }
 

@@ -183,12 +183,21 @@ fn same(rt: &impl Abort, channel: &NewChannel, found: Found) {
     holds(rt, place == (byte, bit, count), name);
 }
 
+/// The channels of these columns behind a front.
+fn channels_behind(
+    alloc: Global,
+    front: Front,
+    columns: &[PlacedColumn<'_>],
+) -> Result<Vec<NewChannel>, AllocError> {
+    let form = form(alloc, front, columns)?;
+    channels_of(alloc, &form, columns)
+}
+
 #[test]
 fn channels_stand_where_the_record_has_their_values(rt: HostRuntime) -> Result<(), Fail> {
     let alloc = rt.alloc();
-    let columns = columns(alloc)?;
-    let seconds = form(alloc, Front::Seconds, &columns)?;
-    let channels = channels_of(alloc, &seconds, &columns)?;
+    let seconds = columns(alloc)?;
+    let channels = channels_behind(alloc, Front::Seconds, &seconds)?;
     holds(&rt, channels.len() == 9, "channels");
     holds(
         &rt,
@@ -209,10 +218,13 @@ fn channels_stand_where_the_record_has_their_values(rt: HostRuntime) -> Result<(
     for (channel, found) in channels[2..].iter().zip(FOUND) {
         same(&rt, channel, found);
     }
+    Ok(())
+}
 
-    let one = [placed(&ROWS[0], None)];
-    let ticks = form(alloc, Front::Ticks, &one)?;
-    let channels = channels_of(alloc, &ticks, &one)?;
+#[test]
+fn channels_without_a_tick_have_an_index(rt: HostRuntime) -> Result<(), Fail> {
+    let columns = [placed(&ROWS[0], None)];
+    let channels = channels_behind(rt.alloc(), Front::Ticks, &columns)?;
     holds(&rt, channels.len() == 4, "channels without a tick");
     holds(
         &rt,
@@ -333,14 +345,18 @@ fn raw_values_have_no_limits(rt: HostRuntime) -> Result<(), Fail> {
     Ok(())
 }
 
-#[test]
-fn ranges_have_their_bounds_and_the_default(rt: HostRuntime) -> Result<(), Fail> {
-    let alloc = rt.alloc();
+/// Two ranges that fall, and a default.
+fn ranges(alloc: Global) -> Result<Conversion, AllocError> {
     let mut rows = Vec::new(alloc);
     rows.push(row(alloc, 10.0, 19.0, "high")?)?;
     rows.push(row(alloc, 0.0, 9.0, "low")?)?;
     let other = Some(String::from_str(alloc, "none")?);
-    let (channel, _) = converted(alloc, &Conversion::Texts(TextTable { rows, other }))?;
+    Ok(Conversion::Texts(TextTable { rows, other }))
+}
+
+#[test]
+fn ranges_have_their_bounds_and_the_default(rt: HostRuntime) -> Result<(), Fail> {
+    let (channel, _) = converted(rt.alloc(), &ranges(rt.alloc())?)?;
     let Some(conversion) = &channel.conversion else {
         return Err(Fail::from("no conversion"));
     };

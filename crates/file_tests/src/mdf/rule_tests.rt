@@ -81,20 +81,32 @@ const LOST: [(&str, Rows); 2] = [
     ),
 ];
 
+/// That a rule has these places, each with one number.
+fn has_values(rt: &impl Abort, name: &str, rule: &Rule, wanted: Places) {
+    match rule {
+        Rule::Values(places) => same(rt, name, places, wanted),
+        _ => holds(rt, false, name),
+    }
+}
+
+/// That a rule has these places, each with a range.
+fn has_ranges(rt: &impl Abort, name: &str, rule: &Rule, wanted: Places) {
+    match rule {
+        Rule::Ranges(places) => same(rt, name, places, wanted),
+        _ => holds(rt, false, name),
+    }
+}
+
 #[test]
 fn tables_of_texts_rise(rt: HostRuntime) -> Result<(), Fail> {
     let alloc = rt.alloc();
-    for (name, rows, wanted) in &VALUES {
-        match rule_of(alloc, &table(alloc, rows)?, false)? {
-            Rule::Values(places) => same(&rt, name, &places, wanted),
-            _ => holds(&rt, false, name),
-        }
+    for (name, rows, wanted) in VALUES {
+        let rule = rule_of(alloc, &table(alloc, rows)?, false)?;
+        has_values(&rt, name, &rule, wanted);
     }
-    for (name, rows, wanted) in &RANGES {
-        match rule_of(alloc, &table(alloc, rows)?, true)? {
-            Rule::Ranges(places) => same(&rt, name, &places, wanted),
-            _ => holds(&rt, false, name),
-        }
+    for (name, rows, wanted) in RANGES {
+        let rule = rule_of(alloc, &table(alloc, rows)?, true)?;
+        has_ranges(&rt, name, &rule, wanted);
     }
     Ok(())
 }

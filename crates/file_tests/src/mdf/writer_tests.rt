@@ -1,12 +1,13 @@
 //! Files that are written record by record.
 ghost use Rattle.std.specs.Prelude.{◌≡◌, [], IfSome, None};
 
-use crate::mdf::file_tests::{COMMENT, LATER, QUARTERS, START, speed, state, time};
 use crate::holds::holds;
+use crate::mdf::file_tests::{COMMENT, LATER, QUARTERS, START, one, two};
 use crate::mdf::worked_file::FILE;
-use mdf_file::{About, Limits, MdfFault, MdfOut, MdfWriter, MemoryOut, NewChannel, SeekOut};
+use mdf_file::{About, Limits, MdfFault, MdfOut, MdfWriter, MemoryOut, SeekOut};
 use std::alloc::{AllocError, Global};
 use std::io::{self, Cursor};
+use std::process::Abort;
 use std::test::Fail;
 
 const SMALL: Limits = Limits {
@@ -25,19 +26,6 @@ fn about(alloc: Global) -> Result<About, AllocError> {
         program: *b"nerthogl",
         comment: COMMENT.to_owned(alloc)?,
     })
-}
-
-fn two(alloc: Global) -> Result<Vec<NewChannel>, AllocError> {
-    let mut out = Vec::new(alloc);
-    out.push(time(alloc)?)?;
-    out.push(state(alloc)?)?;
-    Ok(out)
-}
-
-fn one(alloc: Global) -> Result<Vec<NewChannel>, AllocError> {
-    let mut out = Vec::new(alloc);
-    out.push(speed(alloc)?)?;
-    Ok(out)
 }
 
 /// A file of two groups whose records come in turn, and of one without records.
@@ -95,35 +83,28 @@ fn all_that_waits_is_written_at_the_limit_of_all(rt: HostRuntime) -> Result<(), 
     Ok(())
 }
 
+/// Compares what a new writer answers to groups and records.
+fn refuses(rt: &impl Abort, alloc: Global, writer: &mut MdfWriter<MemoryOut>) -> Result<(), Fail> {
+    let none = writer.group("10 ms".to_owned(alloc)?, two(alloc)?, 0);
+    let what = "records of no bytes";
+    holds(rt, none == Err(MdfFault::NoRecordBytes), what);
+    let first = writer.group("10 ms".to_owned(alloc)?, two(alloc)?, 9);
+    holds(rt, first == Ok(0), "a group");
+    let other = writer.record(1, &LATER);
+    holds(rt, other == Err(MdfFault::NoGroup), "no group");
+    let part = writer.record(0, &LATER[1..]);
+    holds(rt, part == Err(MdfFault::PartOfRecord), "part of a record");
+    holds(rt, writer.record(0, &LATER) == Ok(()), "a record");
+    Ok(())
+}
+
 #[test]
 fn what_is_refused_is_named(rt: HostRuntime) -> Result<(), Fail> {
     let alloc = rt.alloc();
-    let Ok(mut writer) = MdfWriter::new(alloc, about(alloc)?, MemoryOut::new(alloc)) else {
-        return Err(Fail::from("no file"));
-    };
-    let none = writer.group("10 ms".to_owned(alloc)?, two(alloc)?, 0);
-    holds(
-        &rt,
-        none == Err(MdfFault::NoRecordBytes),
-        "records of no bytes",
-    );
-    holds(
-        &rt,
-        writer.group("10 ms".to_owned(alloc)?, two(alloc)?, 9) == Ok(0),
-        "a group",
-    );
-    holds(
-        &rt,
-        writer.record(1, &LATER) == Err(MdfFault::NoGroup),
-        "no group",
-    );
-    holds(
-        &rt,
-        writer.record(0, &LATER[1..]) == Err(MdfFault::PartOfRecord),
-        "part of a record",
-    );
-    holds(&rt, writer.record(0, &LATER) == Ok(()), "a record");
-    Ok(())
+    match MdfWriter::new(alloc, about(alloc)?, MemoryOut::new(alloc)) {
+        Ok(mut writer) => refuses(&rt, alloc, &mut writer),
+        Err(_) => Err(Fail::from("no file")),
+    }
 }
 
 /// An out whose appends fail once so many were made.
@@ -150,6 +131,29 @@ impl MdfOut for FailingOut<'_> {
     }
 }
 
+/// Compares what a writer answers before its third append fails, and behind that.
+fn fails(
+    rt: &impl Abort,
+    alloc: Global,
+    writer: &mut MdfWriter<FailingOut<'_>>,
+) -> Result<(), Fail> {
+    let first = writer.group("10 ms".to_owned(alloc)?, two(alloc)?, 9);
+    holds(rt, first == Ok(0), "a group");
+    let wanted = [
+        Ok(()),
+        Ok(()),
+        Err(MdfFault::Unwritten),
+        Err(MdfFault::Unwritten),
+    ];
+    for answer in wanted {
+        holds(rt, writer.record(0, &LATER) == answer, "a record");
+    }
+    let later = writer.group("event".to_owned(alloc)?, one(alloc)?, 0);
+    let what = "a group behind a failure";
+    holds(rt, later == Err(MdfFault::Unwritten), what);
+    Ok(())
+}
+
 #[test]
 fn a_writer_that_failed_takes_no_more(rt: HostRuntime) -> Result<(), Fail> {
     let alloc = rt.alloc();
@@ -161,26 +165,7 @@ fn a_writer_that_failed_takes_no_more(rt: HostRuntime) -> Result<(), Fail> {
     let Ok(mut writer) = MdfWriter::with_limits(alloc, about(alloc)?, out, SMALL) else {
         return Err(Fail::from("no file"));
     };
-    holds(
-        &rt,
-        writer.group("10 ms".to_owned(alloc)?, two(alloc)?, 9) == Ok(0),
-        "a group",
-    );
-    let wanted = [
-        Ok(()),
-        Ok(()),
-        Err(MdfFault::Unwritten),
-        Err(MdfFault::Unwritten),
-    ];
-    for answer in wanted {
-        holds(&rt, writer.record(0, &LATER) == answer, "a record");
-    }
-    let later = writer.group("event".to_owned(alloc)?, one(alloc)?, 0);
-    holds(
-        &rt,
-        later == Err(MdfFault::Unwritten),
-        "a group behind a failure",
-    );
+    fails(&rt, alloc, &mut writer)?;
     holds(
         &rt,
         matches!(writer.finish(), Err(MdfFault::Unwritten)),
