@@ -37,24 +37,22 @@ impl<'a, W: Write + Drop> TallyTable<'a, W> {
             out,
         })
     }
+
+    /// Writes the head of the table, and a line for each column.
+    fn write(&mut self) -> io::Result<()> {
+        print_tally_head(&mut self.out)?;
+        for (column, tally) in self.columns.columns().iter().zip(self.tallies.iter()) {
+            print_tally(&mut self.out, &mut self.text, column, tally)?;
+        }
+        self.out.flush()
+    }
 }
 
 impl<'a, W: Write + Drop> CaptureSheet for TallyTable<'a, W> {
     /// Prints the head of the table, and a line for each column.
     fn print(self) -> io::Result<()> {
-        let TallyTable {
-            columns,
-            tallies,
-            text,
-            out,
-        } = self;
-        let mut text = text;
-        let mut out = out;
-        print_tally_head(&mut out)?;
-        for (column, tally) in columns.columns().iter().zip(tallies.iter()) {
-            print_tally(&mut out, &mut text, column, tally)?;
-        }
-        out.flush()
+        let mut table = self;
+        table.write()
     }
 }
 

@@ -32,11 +32,8 @@ impl<'a, W: Write + Drop> ValuePicture<'a, W> {
         out: W,
     ) -> Result<ValuePicture<'a, W>, AllocError> {
         let mut picture = CurvePicture::new(alloc);
-        let mut tables = Vec::new(alloc);
-        for column in &columns {
-            picture.add_row(column.name, column.unit)?;
-            tables.push(table_of(column))?;
-        }
+        add_rows(&mut picture, &columns)?;
+        let tables = tables_of(alloc, &columns)?;
         Ok(ValuePicture {
             columns: CaptureColumns::new(alloc, columns),
             tables,
@@ -66,6 +63,26 @@ impl<'a, W: Write + Drop> CaptureSheet for ValuePicture<'a, W> {
         picture.print(&mut out, &tables, axis)?;
         out.flush()
     }
+}
+
+/// Adds a row for each column.
+fn add_rows(picture: &mut CurvePicture, columns: &[Column<'_>]) -> Result<(), AllocError> {
+    for column in columns {
+        picture.add_row(column.name, column.unit)?;
+    }
+    Ok(())
+}
+
+/// The texts of each column's values.
+fn tables_of<'a>(
+    alloc: Global,
+    columns: &[Column<'a>],
+) -> Result<Vec<Option<&'a TextTable>>, AllocError> {
+    let mut tables = Vec::new(alloc);
+    for column in columns {
+        tables.push(table_of(column))?;
+    }
+    Ok(tables)
 }
 
 /// The texts of a column's values, if it has such.

@@ -6,3 +6,4 @@ pub mod LawLemmas
 pub mod ChannelLemmas
 pub mod TimeLemmas
 pub mod SecondsLemmas
+pub mod FileLemmas

@@ -4,6 +4,7 @@ ghost use Rattle.mdf_file.specs.Describing.{told_channel, told_conversion};
 ghost use Rattle.mdf_groups.specs.Channels.{front_channels, front_names, index_channel};
 ghost use Rattle.mdf_groups.specs.Channels.{integer_place, key, mark_channel, marks, ticks_channel};
 ghost use Rattle.mdf_groups.specs.Channels.{time_channel};
+ghost use Rattle.mdf_groups.specs.declared.front.Front.TheVariants.{Nothing, Seconds, Ticks};
 
 use crate::channel::channel_at;
 use crate::front::Front;
@@ -35,23 +36,44 @@ pub fn front_channels(
         ≡ front_channels front (map string_bytes names.now)) }
 {
     match front {
-        Front::Seconds => {
-            let time = time_channel(alloc, &names[0])?;
-            let mark = mark_channel(alloc, &names[1], 8)?;
-            Ok(Vec::from_array(alloc, [time, mark])?)
-        }
-        Front::Ticks => {
-            let index = index_channel(alloc, &names[0])?;
-            let ticks = ticks_channel(alloc, &names[1])?;
-            let mark = mark_channel(alloc, &names[2], 8)?;
-            Ok(Vec::from_array(alloc, [index, ticks, mark])?)
-        }
-        Front::Nothing => {
-            let index = index_channel(alloc, &names[0])?;
-            let mark = mark_channel(alloc, &names[1], 0)?;
-            Ok(Vec::from_array(alloc, [index, mark])?)
-        }
+        Front::Seconds => seconds_channels(alloc, names),
+        Front::Ticks => ticks_channels(alloc, names),
+        Front::Nothing => nothing_channels(alloc, names),
     }
+}
+
+/// The channels of records that begin with a time in seconds.
+fn seconds_channels(alloc: Global, names: &[String]) -> Result<Vec<NewChannel>, AllocError>
+    requires { length names.now ≡ 2 }
+    ensures { IfOk result (λ channels. map told_channel channels.items
+        ≡ front_channels Seconds (map string_bytes names.now)) }
+{
+    let time = time_channel(alloc, &names[0])?;
+    let mark = mark_channel(alloc, &names[1], 8)?;
+    Ok(Vec::from_array(alloc, [time, mark])?)
+}
+
+/// The channels of records that begin with a time in ticks.
+fn ticks_channels(alloc: Global, names: &[String]) -> Result<Vec<NewChannel>, AllocError>
+    requires { length names.now ≡ 3 }
+    ensures { IfOk result (λ channels. map told_channel channels.items
+        ≡ front_channels Ticks (map string_bytes names.now)) }
+{
+    let index = index_channel(alloc, &names[0])?;
+    let ticks = ticks_channel(alloc, &names[1])?;
+    let mark = mark_channel(alloc, &names[2], 8)?;
+    Ok(Vec::from_array(alloc, [index, ticks, mark])?)
+}
+
+/// The channels of records that begin with their mark.
+fn nothing_channels(alloc: Global, names: &[String]) -> Result<Vec<NewChannel>, AllocError>
+    requires { length names.now ≡ 2 }
+    ensures { IfOk result (λ channels. map told_channel channels.items
+        ≡ front_channels Nothing (map string_bytes names.now)) }
+{
+    let index = index_channel(alloc, &names[0])?;
+    let mark = mark_channel(alloc, &names[1], 0)?;
+    Ok(Vec::from_array(alloc, [index, mark])?)
 }
 
 /// The time in seconds, by which the samples are ordered.

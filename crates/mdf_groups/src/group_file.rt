@@ -109,16 +109,11 @@ impl<O: MdfOut + Drop> GroupFile<O> {
 
         ensures err { IfErr result (λ fault. IsRefused self.old self.new (File fault)) }
     {
-        let count = self.forms.len();
         let bytes = form.record_bytes();
-        self.forms.push(form)?;
-        match self.writer.group(name, channels, bytes) {
-            Ok(number) => Ok(number),
-            Err(fault) => {
-                self.forms.truncate(count);
-                Err(fault)
-            }
-        }
+        self.forms.reserve(1)?;
+        let number = self.writer.group(name, channels, bytes)?;
+        self.forms.push_reserved(form);
+        Ok(number)
     }
 
     /// One sample more of a group. `mark` is 0, 1 for an overload, 2 for a gap, 3 for both.

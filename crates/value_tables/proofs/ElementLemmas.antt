@@ -1,6 +1,8 @@
--- The elements of an array, one after another.
-use Rattle.std.proofs.Common.{◌≡◌, ℕ, Bool, ◌+◌, List, ◌++◌, sym, ap, ◌∙◌, add-one}
-use Rattle.std.proofs.Common.{append-nil, append_assoc}
+-- The elements of an array, one after another, and what stands in the places of measurements.
+use Rattle.std.proofs.Common.{◌≡◌, ℕ, Bool, ◌+◌, List, [], ◌∷◌, ◌++◌, sym, ap, ◌∙◌, add-one}
+use Rattle.std.proofs.Common.{append-nil, append_assoc, map}
+use Rattle.std.proofs.lemmas.List.{flat_map_more, map_push}
+use Rattle.std.specs.List.{flat_map}
 use Rattle.a2l.specs.Elements.{element_address}
 use Rattle.a2l.specs.Resolved.{Value}
 use Rattle.value_tables.specs.Elements.{element_if, elements_below}
@@ -22,3 +24,12 @@ elements_go_on held v base old new k step so_far =
     step ∙ ap (λ (xs : List Value). xs ++ one) so_far
     ∙ append_assoc base (elements_below held v k) one
     ∙ ap (λ (n : ℕ). base ++ elements_below held v n) (sym (add-one k))
+
+-- what comes of one value more, behind what came of those before
+pub one_value_more :
+    {A B C : Type 0} (f : B → List C) (seen : A → B) (base old new : List C) (xs : List A) (x : A)
+    → new ≡ old ++ f (seen x) → old ≡ base ++ flat_map f (map seen xs)
+    → new ≡ base ++ flat_map f (map seen (xs ++ x ∷ []))
+one_value_more f seen base old new xs x step so_far =
+    step ∙ ap (λ ys. ys ++ f (seen x)) so_far ∙ flat_map_more f base (map seen xs) (seen x)
+    ∙ ap (λ zs. base ++ flat_map f zs) (sym (map_push seen xs x))

@@ -4,7 +4,7 @@ ghost use Rattle.a2l.specs.Described.{description_seen};
 ghost use Rattle.a2l.specs.Elements.{element_address, elements_in};
 ghost use Rattle.a2l.specs.Resolved.{described_measurement};
 ghost use Rattle.value_tables.specs.Elements.{element_if, elements_below, name_if_none, parts_of};
-ghost use Rattle.value_tables.specs.Elements.{with_elements};
+ghost use Rattle.value_tables.specs.Elements.{name_unless, with_elements};
 
 use crate::holder::Holder;
 use a2l::{Description, Measurement};
@@ -61,10 +61,31 @@ fn add_parts<H: Holder>(
         parts.push(measurement)?;
         return Ok(());
     }
+    add_array(alloc, parts, left_out, measurement, holder)
+}
+
+/// Appends the elements of an array that are there, or its name if there are none.
+fn add_array<H: Holder>(
+    alloc: Global,
+    parts: &mut Vec<Measurement>,
+    left_out: &mut Vec<String>,
+    array: Measurement,
+    holder: &H,
+) -> Result<(), AllocError>
+    ensures parts { OnOk result (map described_measurement parts.new.items
+        ≡ map described_measurement parts.old.items
+        ++ elements_below (H.held holder.now) (described_measurement array)
+        (elements_in (described_measurement array))) }
+    ensures left_out { OnOk result (map (λ s. string_bytes s) left_out.new.items
+        ≡ map (λ s. string_bytes s) left_out.old.items
+        ++ name_unless (described_measurement array)
+        (elements_below (H.held holder.now) (described_measurement array)
+        (elements_in (described_measurement array)))) }
+{
     let before = parts.len();
-    add_elements(alloc, parts, &measurement, holder)?;
+    add_elements(alloc, parts, &array, holder)?;
     if parts.len() == before {
-        left_out.push(measurement.name)?;
+        left_out.push(array.name)?;
     }
     Ok(())
 }

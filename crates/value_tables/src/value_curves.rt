@@ -46,11 +46,8 @@ impl<'a> ValueCurves<'a> {
         ensures { IfOk result (λ curves. curves ≡ []) }
     {
         let mut picture = CurvePicture::new(alloc);
-        let mut tables = Vec::with_capacity(alloc, columns.len())?;
-        for column in columns.iter() {
-            picture.add_row(column.name, column.unit)?;
-            tables.push(table_of(column))?;
-        }
+        add_rows(&mut picture, &columns)?;
+        let tables = tables_of(alloc, &columns)?;
         let lists = lists_of(alloc, shapes, &columns)?;
         Ok(ValueCurves {
             columns,
@@ -86,6 +83,26 @@ impl<'a> Samples for ValueCurves<'a> {
         // for the proof: clauses speak of the samples that were handed over
         self.log.note(place, sample);
     }
+}
+
+/// Adds a row for each column.
+fn add_rows(picture: &mut CurvePicture, columns: &[Column<'_>]) -> Result<(), AllocError> {
+    for column in columns {
+        picture.add_row(column.name, column.unit)?;
+    }
+    Ok(())
+}
+
+/// The texts of each column's values.
+fn tables_of<'a>(
+    alloc: Global,
+    columns: &[Column<'a>],
+) -> Result<Vec<Option<&'a TextTable>>, AllocError> {
+    let mut tables = Vec::with_capacity(alloc, columns.len())?;
+    for column in columns {
+        tables.push(table_of(column))?;
+    }
+    Ok(tables)
 }
 
 /// The texts of a column's values, if it has such.
