@@ -1,5 +1,5 @@
 //! An A2L file is read block by block, and a fault gets its line and its column.
-ghost use Rattle.std.specs.Prelude.{◌≡◌, ◌≤◌, false, length, IfOk, IfErr, IsSome, ◌<◌};
+ghost use Rattle.std.specs.Prelude.{◌≡◌, ◌≤◌, false, length, IfOk, IfErr, IsSome, OnOk, ◌<◌};
 ghost use Rattle.a2l_text.specs.Steps.{NextIs, cleared};
 ghost use Rattle.a2l_text.specs.States.{state_of};
 ghost use Rattle.a2l_text.specs.Trees.{Elements};
@@ -82,14 +82,25 @@ fn read_all(alloc: Global, blocks: &mut Blocks<'_>) -> Result<Draft, ReadFault>
         (λ fault. MakesNone fault (state_of blocks.old) (no_parts, nothing)) }
 {
     let mut draft = Draft::new(alloc);
+    take_all(alloc, blocks, &mut draft)?;
+    Ok(draft)
+}
+
+/// Adds what the parts say, up to the end of the text.
+fn take_all(alloc: Global, blocks: &mut Blocks<'_>, draft: &mut Draft) -> Result<(), ReadFault>
+    ensures ok { OnOk result
+        (IsAllOf (state_of blocks.old) (draft_seen draft.old) (draft_seen draft.new)) }
+    ensures err { IfErr result
+        (λ fault. MakesNone fault (state_of blocks.old) (draft_seen draft.old)) }
+{
     while let Some(part) = next_part(blocks)? {
         let words = Left {
             words: blocks.words(),
             end: blocks.end_of_part(),
         };
-        take(&mut draft, alloc, part, words)?;
+        take(draft, alloc, part, words)?;
     }
-    Ok(draft)
+    Ok(())
 }
 
 /// The next part.

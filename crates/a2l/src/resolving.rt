@@ -61,15 +61,31 @@ pub fn add_methods(
 {
     let places = table_places(alloc, tables)?;
     for method in methods {
-        let method = described_method(alloc, method, tables, &places)?;
-        let bytes = bytes_of(&method.conversion);
-        if bytes > *room {
-            return Err(EntryFault::Memory);
-        }
-        *room -= bytes;
+        let method = method_within(alloc, method, tables, &places, room)?;
         out.push(method)?;
     }
     Ok(())
+}
+
+/// A method with a copy of the table that it names, of which the bytes are taken off `room`.
+fn method_within(
+    alloc: Global,
+    method: &MethodBlock,
+    tables: &[TableBlock],
+    places: &Places,
+    room: &mut usize,
+) -> Result<Method, EntryFault>
+    requires { ArePlaces (map (λ t. string_bytes t.name) tables.now) places.now }
+    ensures { Gives described_method result
+        (method_of (map table_seen tables.now) (method_seen method.now)) }
+{
+    let method = described_method(alloc, method, tables, places)?;
+    let bytes = bytes_of(&method.conversion);
+    if bytes > *room {
+        return Err(EntryFault::Memory);
+    }
+    *room -= bytes;
+    Ok(method)
 }
 
 /// How many bytes the rows of a conversion's table take, with those of their texts.
@@ -167,14 +183,22 @@ fn copy_of_rows(alloc: Global, rows: &[TextRow]) -> Result<Vec<TextRow>, AllocEr
 {
     let mut copies = Vec::with_capacity(alloc, rows.len())?;
     for row in rows {
-        let text = row.text.clone()?;
-        copies.push(TextRow {
-            least: row.least,
-            greatest: row.greatest,
-            text,
-        })?;
+        let copy = copy_of_row(row)?;
+        copies.push(copy)?;
     }
     Ok(copies)
+}
+
+/// A copy of a row.
+fn copy_of_row(row: &TextRow) -> Result<TextRow, AllocError>
+    ensures { IfOk result (λ copy. row_seen copy ≡ row_seen row.now) }
+{
+    let text = row.text.clone()?;
+    Ok(TextRow {
+        least: row.least,
+        greatest: row.greatest,
+        text,
+    })
 }
 
 /// A copy of a text, if there is one.

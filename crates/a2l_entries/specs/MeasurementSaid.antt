@@ -138,6 +138,12 @@ shift_of n = if nat_lt 63 n then None else Some n
 unfoldable pub shift_said : Token → Option ℕ
 shift_said w = integer_said w >>= shift_of
 
+-- the same, as the first word says
+abbrev pub shift_first : List Token → Option ℕ
+shift_first ws = do
+  first ← first_of ws
+  shift_said first.0
+
 abbrev pub address_of : ℕ → Option ℕ
 address_of n = if nat_lt n (2 ^ 32) then Some n else None
 

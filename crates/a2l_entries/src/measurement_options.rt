@@ -1,12 +1,13 @@
 //! The options of a MEASUREMENT are read: address, order, mask, shifts, unit, dimensions.
 ghost use Rattle.std.specs.Prelude.{◌≡◌};
+ghost use Rattle.a2l_entries.specs.declared.keywords.MeasurementKeyword.TheVariants as option;
 ghost use Rattle.a2l_entries.specs.Gives.{Gives};
 ghost use Rattle.a2l_entries.specs.Said.{token_at, tokens_of};
 ghost use Rattle.a2l_entries.specs.MeasurementSaid.{options_seen, no_options, options_or};
 ghost use Rattle.a2l_entries.specs.MeasurementSaid.{options_said, option_said, mask_said};
 ghost use Rattle.a2l_entries.specs.MeasurementSaid.{operation_of, operation_said, shift_said};
 ghost use Rattle.a2l_entries.specs.MeasurementSaid.{address_said, extended_said, dims_of};
-ghost use Rattle.a2l_entries.specs.MeasurementSaid.{has_shape, layout_of};
+ghost use Rattle.a2l_entries.specs.MeasurementSaid.{has_shape, layout_of, shift_first};
 
 use crate::awaited::Awaited;
 use crate::dimensions::{dimension_of, dimensions_in, element_count};
@@ -167,75 +168,115 @@ fn option_of(
     ensures { Gives options_seen result (option_said keyword (tokens_of left.entry)) }
 {
     match keyword {
-        MeasurementKeyword::Order => {
-            let (word, _) = left.first(Awaited::ByteOrder)?;
-            let order = order_in(word)?;
-            Ok(MeasurementOptions {
-                order: Some(order),
-                ..MeasurementOptions::none()
-            })
-        }
-        MeasurementKeyword::Mask => {
-            let (word, _) = left.first(Awaited::Mask)?;
-            let mask = mask_in(word)?;
-            Ok(MeasurementOptions {
-                mask: Some(mask),
-                ..MeasurementOptions::none()
-            })
-        }
+        MeasurementKeyword::Order => order_option(left),
+        MeasurementKeyword::Mask => mask_option(left),
         MeasurementKeyword::Operation(keyword) => operation_option(keyword, left),
-        MeasurementKeyword::Address => {
-            let (word, _) = left.first(Awaited::Address)?;
-            let address = address_in(word)?;
-            Ok(MeasurementOptions {
-                address: Some(address),
-                ..MeasurementOptions::none()
-            })
-        }
-        MeasurementKeyword::Unit => {
-            let (word, _) = left.first(Awaited::Text)?;
-            let unit = text_in(alloc, word)?;
-            Ok(MeasurementOptions {
-                unit: Some(unit),
-                ..MeasurementOptions::none()
-            })
-        }
-        MeasurementKeyword::Extension => {
-            let (word, _) = left.first(Awaited::Number)?;
-            let apart = is_extended(word)?;
-            Ok(MeasurementOptions {
-                apart,
-                ..MeasurementOptions::none()
-            })
-        }
-        MeasurementKeyword::Size => {
-            let (word, _) = left.first(Awaited::Integer)?;
-            let size = integer_in(word)?;
-            let dims = dimension_of(alloc, size)?;
-            Ok(MeasurementOptions {
-                size: Some(dims),
-                ..MeasurementOptions::none()
-            })
-        }
-        MeasurementKeyword::Dimensions => {
-            let dims = dimensions_in(alloc, left)?;
-            Ok(MeasurementOptions {
-                dimensions: Some(dims),
-                ..MeasurementOptions::none()
-            })
-        }
-        MeasurementKeyword::Layout => {
-            let (word, _) = left.first(Awaited::Layout)?;
-            let layout = layout_in(word)?;
-            Ok(MeasurementOptions {
-                layout: Some(layout),
-                ..MeasurementOptions::none()
-            })
-        }
+        MeasurementKeyword::Address => address_option(left),
+        MeasurementKeyword::Extension => extension_option(left),
+        MeasurementKeyword::Unit => unit_option(alloc, left),
+        MeasurementKeyword::Size => size_option(alloc, left),
+        MeasurementKeyword::Dimensions => dimensions_option(alloc, left),
+        MeasurementKeyword::Layout => layout_option(left),
         MeasurementKeyword::One | MeasurementKeyword::Two | MeasurementKeyword::Other => {
             Ok(MeasurementOptions::none())
         }
     }
+}
+
+/// What BYTE_ORDER says.
+#[tactic(auto, unfolding(crate::specs::MeasurementSaid::option_said))]
+fn order_option(left: Left<'_, '_>) -> Result<MeasurementOptions, EntryFault>
+    ensures { Gives options_seen result (option_said option.Order (tokens_of left.entry)) }
+{
+    let (word, _) = left.first(Awaited::ByteOrder)?;
+    let order = order_in(word)?;
+    let mut options = MeasurementOptions::none();
+    options.order = Some(order);
+    Ok(options)
+}
+
+/// What BIT_MASK says.
+#[tactic(auto, unfolding(crate::specs::MeasurementSaid::option_said))]
+fn mask_option(left: Left<'_, '_>) -> Result<MeasurementOptions, EntryFault>
+    ensures { Gives options_seen result (option_said option.Mask (tokens_of left.entry)) }
+{
+    let (word, _) = left.first(Awaited::Mask)?;
+    let mask = mask_in(word)?;
+    let mut options = MeasurementOptions::none();
+    options.mask = Some(mask);
+    Ok(options)
+}
+
+/// What ECU_ADDRESS says.
+#[tactic(auto, unfolding(crate::specs::MeasurementSaid::option_said))]
+fn address_option(left: Left<'_, '_>) -> Result<MeasurementOptions, EntryFault>
+    ensures { Gives options_seen result (option_said option.Address (tokens_of left.entry)) }
+{
+    let (word, _) = left.first(Awaited::Address)?;
+    let address = address_in(word)?;
+    let mut options = MeasurementOptions::none();
+    options.address = Some(address);
+    Ok(options)
+}
+
+/// What ECU_ADDRESS_EXTENSION says.
+#[tactic(auto, unfolding(crate::specs::MeasurementSaid::option_said))]
+fn extension_option(left: Left<'_, '_>) -> Result<MeasurementOptions, EntryFault>
+    ensures { Gives options_seen result (option_said option.Extension (tokens_of left.entry)) }
+{
+    let (word, _) = left.first(Awaited::Number)?;
+    let apart = is_extended(word)?;
+    let mut options = MeasurementOptions::none();
+    options.apart = apart;
+    Ok(options)
+}
+
+/// What PHYS_UNIT says.
+#[tactic(auto, unfolding(crate::specs::MeasurementSaid::option_said))]
+fn unit_option(alloc: Global, left: Left<'_, '_>) -> Result<MeasurementOptions, EntryFault>
+    ensures { Gives options_seen result (option_said option.Unit (tokens_of left.entry)) }
+{
+    let (word, _) = left.first(Awaited::Text)?;
+    let unit = text_in(alloc, word)?;
+    let mut options = MeasurementOptions::none();
+    options.unit = Some(unit);
+    Ok(options)
+}
+
+/// What ARRAY_SIZE says.
+#[tactic(auto, unfolding(crate::specs::MeasurementSaid::option_said))]
+fn size_option(alloc: Global, left: Left<'_, '_>) -> Result<MeasurementOptions, EntryFault>
+    ensures { Gives options_seen result (option_said option.Size (tokens_of left.entry)) }
+{
+    let (word, _) = left.first(Awaited::Integer)?;
+    let size = integer_in(word)?;
+    let dims = dimension_of(alloc, size)?;
+    let mut options = MeasurementOptions::none();
+    options.size = Some(dims);
+    Ok(options)
+}
+
+/// What MATRIX_DIM says.
+#[tactic(auto, unfolding(crate::specs::MeasurementSaid::option_said))]
+fn dimensions_option(alloc: Global, left: Left<'_, '_>) -> Result<MeasurementOptions, EntryFault>
+    ensures { Gives options_seen result (option_said option.Dimensions (tokens_of left.entry)) }
+{
+    let dims = dimensions_in(alloc, left)?;
+    let mut options = MeasurementOptions::none();
+    options.dimensions = Some(dims);
+    Ok(options)
+}
+
+/// What LAYOUT says.
+#[tactic(auto, unfolding(crate::specs::MeasurementSaid::option_said))]
+fn layout_option(left: Left<'_, '_>) -> Result<MeasurementOptions, EntryFault>
+    ensures { Gives options_seen result (option_said option.Layout (tokens_of left.entry)) }
+{
+    let (word, _) = left.first(Awaited::Layout)?;
+    let layout = layout_in(word)?;
+    let mut options = MeasurementOptions::none();
+    options.layout = Some(layout);
+    Ok(options)
 }
 
 /// What a word of BIT_OPERATION says, by the words behind it.
@@ -247,31 +288,37 @@ fn operation_option(
     ensures { Gives options_seen result (operation_said keyword (tokens_of left.entry)) }
 {
     match keyword {
-        OperationKeyword::Name => Ok(MeasurementOptions {
-            operates: true,
-            ..MeasurementOptions::none()
-        }),
+        OperationKeyword::Name => {
+            let mut options = MeasurementOptions::none();
+            options.operates = true;
+            Ok(options)
+        }
         OperationKeyword::Left => {
-            let (word, _) = left.first(Awaited::Shift)?;
-            let shift = shift_in(word)?;
-            Ok(MeasurementOptions {
-                left: Some(shift),
-                ..MeasurementOptions::none()
-            })
+            let shift = first_shift(left)?;
+            let mut options = MeasurementOptions::none();
+            options.left = Some(shift);
+            Ok(options)
         }
         OperationKeyword::Right => {
-            let (word, _) = left.first(Awaited::Shift)?;
-            let shift = shift_in(word)?;
-            Ok(MeasurementOptions {
-                right: Some(shift),
-                ..MeasurementOptions::none()
-            })
+            let shift = first_shift(left)?;
+            let mut options = MeasurementOptions::none();
+            options.right = Some(shift);
+            Ok(options)
         }
-        OperationKeyword::Sign => Ok(MeasurementOptions {
-            extends_sign: true,
-            ..MeasurementOptions::none()
-        }),
+        OperationKeyword::Sign => {
+            let mut options = MeasurementOptions::none();
+            options.extends_sign = true;
+            Ok(options)
+        }
     }
+}
+
+/// By how many bits a value is moved, as the first word says.
+fn first_shift(left: Left<'_, '_>) -> Result<u8, EntryFault>
+    ensures { Gives (λ x. x) result (shift_first (tokens_of left.entry)) }
+{
+    let (word, _) = left.first(Awaited::Shift)?;
+    shift_in(word)
 }
 
 /// By how many bits a value is moved: 0 to 63.

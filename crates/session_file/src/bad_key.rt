@@ -45,44 +45,67 @@ impl BadKey {
         let Some(_) = memory_of(table) else {
             return Some(bad_memory(table));
         };
-        let Some(_) = id_of(table) else {
-            return Some(BadKey::Id);
-        };
-        let Some(_) = stamp_of(table) else {
-            return Some(BadKey::StampSize);
-        };
-        let Some(_) = number_at(table, "unit", 0, MAX_UNIT as usize) else {
-            return Some(BadKey::Unit);
-        };
-        let Some(_) = number_at(table, "ticks", 1, u16::MAX as usize) else {
-            return Some(BadKey::Ticks);
-        };
-        let Some(_) = packet_limit(table, "max_cto", MIN_CTO, MAX_CTO) else {
-            return Some(BadKey::MaxCto);
-        };
-        let Some(_) = packet_limit(table, "max_dto", MIN_DTO as usize, MAX_PACKET) else {
-            return Some(BadKey::MaxDto);
-        };
-        let Some(_) = text_or_empty(table, "name") else {
-            return Some(BadKey::Name);
-        };
-        let Some(_) = text_or_empty(table, "a2l_name") else {
-            return Some(BadKey::A2lName);
-        };
-        let Some(_) = text_or_empty(table, "epk") else {
-            return Some(BadKey::Epk);
-        };
-        let Some(_) = text_or_empty(table, "a2l") else {
-            return Some(BadKey::A2l);
-        };
-        let Some(_) = array_at(table, "events") else {
-            return Some(BadKey::Events);
-        };
-        let Some(_) = texts_at(table, "script", MAX_LINES) else {
-            return Some(BadKey::Script);
-        };
-        None
+        bad_packet_key(table)
+            .or(bad_text(table))
+            .or(bad_list(table))
     }
+}
+
+/// The first bad key of those that tell how packets look.
+fn bad_packet_key(table: &Table) -> Option<BadKey>
+    ensures { IfSome result (λ _. HasBadKey (table_view table.now)) }
+{
+    let Some(_) = id_of(table) else {
+        return Some(BadKey::Id);
+    };
+    let Some(_) = stamp_of(table) else {
+        return Some(BadKey::StampSize);
+    };
+    let Some(_) = number_at(table, "unit", 0, MAX_UNIT as usize) else {
+        return Some(BadKey::Unit);
+    };
+    let Some(_) = number_at(table, "ticks", 1, u16::MAX as usize) else {
+        return Some(BadKey::Ticks);
+    };
+    let Some(_) = packet_limit(table, "max_cto", MIN_CTO, MAX_CTO) else {
+        return Some(BadKey::MaxCto);
+    };
+    let Some(_) = packet_limit(table, "max_dto", MIN_DTO as usize, MAX_PACKET) else {
+        return Some(BadKey::MaxDto);
+    };
+    None
+}
+
+/// The first bad key of the four texts.
+fn bad_text(table: &Table) -> Option<BadKey>
+    ensures { IfSome result (λ _. HasBadKey (table_view table.now)) }
+{
+    let Some(_) = text_or_empty(table, "name") else {
+        return Some(BadKey::Name);
+    };
+    let Some(_) = text_or_empty(table, "a2l_name") else {
+        return Some(BadKey::A2lName);
+    };
+    let Some(_) = text_or_empty(table, "epk") else {
+        return Some(BadKey::Epk);
+    };
+    let Some(_) = text_or_empty(table, "a2l") else {
+        return Some(BadKey::A2l);
+    };
+    None
+}
+
+/// The first bad key of the event channels and the script.
+fn bad_list(table: &Table) -> Option<BadKey>
+    ensures { IfSome result (λ _. HasBadKey (table_view table.now)) }
+{
+    let Some(_) = array_at(table, "events") else {
+        return Some(BadKey::Events);
+    };
+    let Some(_) = texts_at(table, "script", MAX_LINES) else {
+        return Some(BadKey::Script);
+    };
+    None
 }
 
 /// The first bad key of memory, if one is bad.

@@ -1,5 +1,5 @@
 //! Values of keys, with their defaults.
-ghost use Rattle.std.specs.Prelude.{◌≡◌, ◌≤◌, IfOk, IfSome, option_copied};
+ghost use Rattle.std.specs.Prelude.{◌≡◌, ◌≤◌, IfOk, IfSome, map, option_copied};
 ghost use Rattle.toml.specs.View.{table_view};
 ghost use Rattle.session_file.specs.Keys.{event_keys, has_key, keys, number_or_0, only_keys};
 ghost use Rattle.session_file.specs.Keys.{packet_limit, text_or_empty};
@@ -23,22 +23,27 @@ pub fn has_file_keys(table: &Table) -> bool
 pub fn is_file_key(word: &str) -> bool
     ensures { result ≡ is_among keys word.now }
 {
-    word == "image_len"
-        || word == "id"
-        || word == "stamp_size"
-        || word == "unit"
-        || word == "ticks"
-        || word == "max_cto"
-        || word == "max_dto"
-        || word == "base"
-        || word == "name"
-        || word == "a2l_name"
-        || word == "epk"
-        || word == "a2l"
-        || word == "segments"
-        || word == "events"
-        || word == "script"
+    is_among(word, &FILE_KEYS)
 }
+
+/// The keys of a session file.
+const FILE_KEYS: [&str; 15] = [
+    "image_len",
+    "id",
+    "stamp_size",
+    "unit",
+    "ticks",
+    "max_cto",
+    "max_dto",
+    "base",
+    "name",
+    "a2l_name",
+    "epk",
+    "a2l",
+    "segments",
+    "events",
+    "script",
+];
 
 /// Whether each key of a table is one of an event channel.
 pub fn has_event_keys(table: &Table) -> bool
@@ -51,12 +56,11 @@ pub fn has_event_keys(table: &Table) -> bool
 fn is_event_key(word: &str) -> bool
     ensures { result ≡ is_among event_keys word.now }
 {
-    word == "capacity"
-        || word == "name"
-        || word == "cycle"
-        || word == "cycle_unit"
-        || word == "priority"
+    is_among(word, &EVENT_KEYS)
 }
+
+/// The keys of an event channel.
+const EVENT_KEYS: [&str; 5] = ["capacity", "name", "cycle", "cycle_unit", "priority"];
 
 /// Whether each key of a table is one of a segment.
 pub fn has_segment_keys(table: &Table) -> bool
@@ -69,7 +73,22 @@ pub fn has_segment_keys(table: &Table) -> bool
 fn is_segment_key(word: &str) -> bool
     ensures { result ≡ is_among segment_keys word.now }
 {
-    word == "extension" || word == "base" || word == "len" || word == "events"
+    is_among(word, &SEGMENT_KEYS)
+}
+
+/// The keys of a segment.
+const SEGMENT_KEYS: [&str; 4] = ["extension", "base", "len", "events"];
+
+/// Whether a word is one of these.
+fn is_among(word: &str, words: &[&str]) -> bool
+    ensures { result ≡ is_among (map (λ w. w.now) words.now) word.now }
+{
+    for one in words {
+        if word == *one {
+            return true;
+        }
+    }
+    false
 }
 
 /// Whether a table has a key.

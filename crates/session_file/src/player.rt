@@ -1,5 +1,6 @@
 //! A slave, its tasks and its transport, which play lines.
-ghost use Rattle.std.specs.Prelude.{◌≡◌, ◌+◌, ◌<◌, ◌≤◌, ◌∷◌, [], IfOk, OnOk, map, true, vec_items};
+ghost use Rattle.std.specs.Prelude.{◌≡◌, ◌+◌, ◌*◌, ◌<◌, ◌≤◌, ◌∷◌, [], ℕ, IfOk, List, OnOk, map};
+ghost use Rattle.std.specs.Prelude.{true, vec_items};
 ghost use Rattle.segments.specs.Memory.{fits, parts};
 ghost use Rattle.slave.specs.Standing.{SlaveState};
 ghost use Rattle.session_file.specs.Inner.{line_data};
@@ -8,6 +9,7 @@ ghost use Rattle.session_file.specs.declared.limits.TheConstants.{ROOM};
 ghost use Rattle.session_file.specs.Playing.{Advances, AreTasksOf, Does, lines_of, most_a_line};
 ghost use Rattle.session_file.specs.Playing.{sending};
 ghost use Rattle.tasks.specs.Tasks.{TaskEndState};
+ghost use Rattle.xcp_base.specs.declared.limits.TheConstants.{MAX_CHANNELS};
 
 use crate::Line;
 use crate::limits::ROOM;
@@ -20,6 +22,7 @@ use frame_writer::VecOut;
 use segments::limits::MAX_READERS;
 use segments::{Segment, fits};
 use slave::Slave;
+use slave_channels::Account;
 use std::alloc::{AllocError, Global};
 use tasks::{Task, TaskEnd};
 
@@ -245,7 +248,7 @@ impl Player {
     {
         self.slave.hang_up();
         let Player {
-            mut slave,
+            slave,
             tasks,
             segments: _,
             clock: _,
@@ -255,18 +258,33 @@ impl Player {
             mut parts,
             refused,
         } = self;
-        let left = finish_all(alloc, tasks)?;
-        collect(&mut slave, &mut parts)?;
-        let closed = slave.close(left);
-        if !closed.is_whole {
-            return Err(PlayFault::PartLost);
-        }
+        let account = close(alloc, slave, tasks, &mut parts)?;
         Ok(Played {
             sent: out,
             ends,
             parts,
-            account: closed.account,
+            account,
             refused,
         })
     }
+}
+
+/// Finishes the tasks of a slave, collects what came back and closes the slave: its account.
+fn close(
+    alloc: Global,
+    mut slave: Slave,
+    tasks: Vec<Task<FrameSend>>,
+    parts: &mut Parts,
+) -> Result<Account, PlayFault>
+    requires tasks { AreTasksOf slave tasks.items }
+    ensures collects { IfOk result (λ _. (s : SlaveState) × ((sent : List ℕ)
+        → Advances (4 * MAX_CHANNELS) (sending slave sent) (sending s sent) [])) }
+{
+    let left = finish_all(alloc, tasks)?;
+    collect(&mut slave, parts)?;
+    let closed = slave.close(left);
+    if !closed.is_whole {
+        return Err(PlayFault::PartLost);
+    }
+    Ok(closed.account)
 }
