@@ -1,6 +1,6 @@
 //! The blocks of a pcapng file.
 ghost use Rattle.std.specs.Prelude.{◌≡◌, ◌≤◌, ◌↔◌, ◌%◌, length, IfErr, IfOk, IsErr};
-ghost use Rattle.std.specs.Prelude.{IsTrue, Some, slice_get};
+ghost use Rattle.std.specs.Prelude.{IfSome, IsNone, IsTrue, Some, slice_get};
 ghost use Rattle.capture.specs.Blocks.{IsEnhanced, IsSectionHeader, IsSimple, begins_section};
 ghost use Rattle.capture.specs.Blocks.{kept_of, order_told, time_at};
 ghost use Rattle.capture.specs.Blocks.{kind_of as kind_of_type};
@@ -133,17 +133,37 @@ pub fn enhanced_in<'b>(
     if block.len() < 32 {
         return Err(CaptureFault::Bad);
     }
-    let number = number_at(order, block, 8, 4) as usize;
-    let Some(interface) = interfaces.get(number) else {
+    let Some(interface) = interface_of(order, block, interfaces) else {
         return Err(CaptureFault::Bad);
     };
+    match enhanced_of(order, block, interface) {
+        Some(packet) => Ok(packet),
+        None => Err(CaptureFault::Bad),
+    }
+}
+
+/// The interface that an enhanced packet block names, if it is there.
+fn interface_of(order: ByteOrder, block: &[u8], interfaces: &[Interface]) -> Option<Interface>
+    requires { 12 ≤ length block.now }
+    ensures { result ≡ slice_get interfaces.now (field order 4 8 block.now) }
+{
+    let number = number_at(order, block, 8, 4) as usize;
+    interfaces.get(number).copied()
+}
+
+/// The packet of an enhanced packet block that this interface received, if it is one.
+fn enhanced_of<'b>(order: ByteOrder, block: &'b [u8], interface: Interface) -> Option<Captured<'b>>
+    requires { 32 ≤ length block.now }
+    ensures some { IfSome result (λ p. IsEnhanced order block.now interface (packet_of p)) }
+    ensures none { IsNone result → (p : PacketOf) → IsEnhanced order block.now interface p → ⊥ }
+{
     let kept = number_at(order, block, 20, 4) as usize;
     if block.len() < 32 + kept {
-        return Err(CaptureFault::Bad);
+        return None;
     }
-    Ok(Captured {
+    Some(Captured {
         link: interface.link,
-        time: Some(time_in(order, block, *interface)),
+        time: Some(time_in(order, block, interface)),
         original: number_at(order, block, 24, 4) as u32,
         bytes: &block[28..28 + kept],
     })

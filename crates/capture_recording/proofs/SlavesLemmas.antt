@@ -1,5 +1,5 @@
 -- What slaves heard of what was said.
-use Rattle.std.proofs.Common.{◌≡◌, ◌≢◌, ◌⊎◌, ⊎_elim, inl, inr, ℕ, zero, suc, ◌<◌, ◌++◌, ◌∷◌, [], List, length, set, slice_get, refl, sym, ap, subst, ◌∙◌, arith, Option, Some, None, option_map, IfSome}
+use Rattle.std.proofs.Common.{◌≡◌, ◌≢◌, ◌⊎◌, ⊎_elim, inl, inr, Bool, ℕ, zero, suc, ◌<◌, ◌++◌, ◌∷◌, [], List, length, set, slice_get, refl, sym, ap, subst, ◌∙◌, arith, Option, Some, None, option_map, IfSome}
 use Rattle.std.proofs.lemmas.List.{length-append}
 use Rattle.std.proofs.lemmas.Option.{none-some}
 use Rattle.std.specs.List.{AllByRecursion}
@@ -7,8 +7,8 @@ use Rattle.std.specs.declared.net.ip_addr.IpAddr.{IpAddr}
 use Rattle.captured_session.specs.declared.form.Form.{Form}
 use Rattle.captured_samples.specs.Standing.{Told}
 use Rattle.datagrams.specs.Waiting.{WholeOf}
-use Rattle.capture_recording.specs.Heard.{came_with}
-use Rattle.capture_recording.specs.Slaves.{AllEnd, AllTalked, AreApart, CameTo, Ends, EndsAt, Follows, HearsTalk, IsAt, IsElse, IsHeard, IsMet, IsOfDatagrams, MeetsOnly, address_at}
+use Rattle.capture_recording.specs.Heard.{HearsDatagram, came_with}
+use Rattle.capture_recording.specs.Slaves.{AllEnd, AllTalked, AreApart, CameTo, Ends, EndsAt, Follows, HearsTalk, IsAt, IsElse, IsHeard, IsMet, IsOfDatagrams, IsOneWith, MeetsOnly, address_at}
 use Rattle.capture_recording.specs.Talks.{HasPorts, IsOfUdp, IsTalk}
 use Rattle.capture_recording.specs.declared.slave.Slave.{Slave}
 use Rattle.capture_recording.specs.declared.talks.Talk.{Talk}
@@ -61,6 +61,15 @@ module _ {X : Type 0} where
 pub udp-of : (d : WholeOf) (ports : ℕ × ℕ) → HasPorts d ports → d.protocol ≢ 6 → IsOfUdp d
 udp-of d ports (inl has) other = has.0
 udp-of d ports (inr has) other = absurd (other has.0.0)
+
+module _ {S : Type 0} (told : S → List Told → Type 0) (d : WholeOf) (m : Bool) (was is : Slave S) where
+  -- who heard a datagram, and is else the same, heard what was said with it
+  pub hears-datagram : HearsDatagram m d.payload was.samples is.samples (told was.sink) (told is.sink) → IsOneWith was is → HearsTalk told d m was is
+  hears-datagram heard stays = record {
+    address = stays.address;
+    datagram = λ _. heard;
+    plain = λ _ plain. rw stays.connections plain;
+  }
 
 module _ {S : Type 0} (told : S → List Told → Type 0) (form : Form) (port : ℕ) (said : List WholeOf) (d : WholeOf) where
   -- a datagram of it and its master came

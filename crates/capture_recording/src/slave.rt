@@ -88,10 +88,17 @@ impl<S: CaptureSink + Drop> Slave<S> {
         ensures many { result ≡ Err ManyFacts → carried.now.protocol ≢ 6
             → FillsUpBy talk.is_of_master carried.now.payload.now self.old.samples }
     {
-        if !carried.is_segment() {
-            return self.hear_datagram(talk.is_of_master, carried.payload);
+        if carried.is_segment() {
+            return self.hear_tcp(talk, carried.payload);
         }
-        match tcp_in(carried.payload) {
+        self.hear_datagram(talk.is_of_master, carried.payload)
+    }
+
+    /// A segment of TCP, if these bytes are one.
+    fn hear_tcp(&mut self, talk: Talk, bytes: &[u8]) -> Result<(), SessionFault>
+        ensures { OnOk result (self.new.address ≡ self.old.address) }
+    {
+        match tcp_in(bytes) {
             Some(segment) => self.hear_segment(talk, &segment),
             None => Ok(()),
         }
@@ -187,26 +194,39 @@ impl<S: CaptureSink + Drop> Slave<S> {
     fn place_of(&mut self, talk: Talk, segment: &Segment<'_>) -> Result<usize, SessionFault>
         ensures { OnOk result (self.new.address ≡ self.old.address) }
     {
-        let known = position_of(&self.connections, talk.master);
-        if let Some(place) = known {
-            if let Some(connection) = self.connections.get_mut(place) {
-                if connection.flow(talk.is_of_master).may_have(segment) {
-                    return Ok(place);
-                }
-                *connection = Connection::new(self.alloc, talk.master);
-                self.samples.begin_anew();
-                return Ok(place);
+        match position_of(&self.connections, talk.master) {
+            Some(place) => {
+                self.go_on_in(place, talk, segment);
+                Ok(place)
             }
+            None => self.begin_connection(talk.master),
         }
+    }
+
+    /// Begins the connection at a place anew, unless it may have this segment.
+    fn go_on_in(&mut self, place: usize, talk: Talk, segment: &Segment<'_>)
+        ensures { self.new.address ≡ self.old.address }
+    {
+        let Some(connection) = self.connections.get_mut(place) else {
+            return;
+        };
+        if connection.flow(talk.is_of_master).may_have(segment) {
+            return;
+        }
+        *connection = Connection::new(self.alloc, talk.master);
+        self.samples.begin_anew();
+    }
+
+    /// The place of a new connection of a master. If too many are kept, they are dropped.
+    fn begin_connection(&mut self, master: SocketAddr) -> Result<usize, SessionFault>
+        ensures { OnOk result (self.new.address ≡ self.old.address) }
+    {
         if self.connections.len() >= MAX_CONNECTIONS {
             self.connections.clear();
         }
         self.samples.begin_anew();
         let place = self.connections.len();
-        match self
-            .connections
-            .push(Connection::new(self.alloc, talk.master))
-        {
+        match self.connections.push(Connection::new(self.alloc, master)) {
             Ok(()) => Ok(place),
             Err(_) => Err(SessionFault::Memory),
         }

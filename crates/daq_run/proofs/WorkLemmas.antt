@@ -1,5 +1,5 @@
 -- What a sampler does in its thread, and what the transmitter takes meanwhile.
-use Rattle.std.proofs.Common.{◌≡◌, ℕ, ◌+◌, All, List, [], ◌∷◌, ◌++◌, map, true, false, cond, IfSome, refl, sym, ap, ap₂, subst, ◌∙◌, arith, le_refl, append-nil, append_assoc}
+use Rattle.std.proofs.Common.{◌≡◌, ℕ, ◌+◌, All, List, [], ◌∷◌, ◌++◌, length, map, true, false, cond, IfSome, refl, sym, ap, ap₂, subst, ◌∙◌, arith, le_refl, append-nil, append_assoc}
 use Rattle.std.specs.Prelude.{Option, Some, None, count_by}
 use Rattle.std.specs.Option.{is_some}
 use Rattle.std.proofs.lemmas.List.{map-append}
@@ -45,6 +45,15 @@ shown-more f xs zs ys h r more same here = ap (map f) more ∙ (map-append f xs 
 
 pub all-more : {H R : Type 0} (f : H → R) (x : R) (xs zs : List H) (h : H) → zs ≡ xs ++ h ∷ [] → All (λ k. f k ≡ x) xs → f h ≡ x → All (λ k. f k ≡ x) zs
 all-more f x xs zs h more all here = subst (All (λ k. f k ≡ x)) (sym more) (All-push (λ k. f k ≡ x) xs h all here)
+
+-- of none nothing is shown, and anything holds
+pub shown-none : {H R : Type 0} (f : H → R) (xs : List H) → length xs ≡ 0 → map f xs ≡ []
+shown-none f [] none = refl
+shown-none f (x ∷ xs) none = absurd (omega (arith, none))
+
+pub all-none : {H : Type 0} (P : H → Type 0) (xs : List H) → length xs ≡ 0 → All P xs
+all-none P [] none = All-nil P
+all-none P (x ∷ xs) none = absurd (omega (arith, none))
 
 -- what holds of all of some and of one more holds of those and of that one
 pub all-before : {H : Type 0} (P : H → Type 0) (xs : List H) (h : H) → All P (xs ++ h ∷ []) → All P xs × P h
@@ -160,6 +169,11 @@ module _ {S E : Type 0} (send : SendGhosts S E) (ring : EndGhosts E) where
           stands = stands h.past h.stands;
         };
   }
+
+  -- none of the samplers
+  pub worked-none : (steps : List RunStep) (es : List (SamplerEndState E)) → length es ≡ 0 → HaveWorked send ring [] steps es 0
+  worked-none steps [] none = refl
+  worked-none steps (e ∷ es) none = absurd (omega (arith, none))
 
   -- one more of the samplers
   pub worked-more : (ss : List (SamplerState S)) (s : SamplerState S) (steps : List RunStep) (es : List (SamplerEndState E)) (e : SamplerEndState E) (n m : ℕ)

@@ -1,12 +1,15 @@
 //! A whole run with a thread for each event channel.
-ghost use Rattle.std.specs.Prelude.{◌≡◌, ◌≤◌, All, IfErr, IfOk, map, true, vec_capacity, vec_len};
+ghost use Rattle.std.specs.Prelude.{◌≡◌, ◌≤◌, All, IfErr, IfOk, IfSome, map, true};
+ghost use Rattle.std.specs.Prelude.{vec_capacity, vec_len};
 ghost use Rattle.xcp_base.specs.declared.limits.TheConstants.{RUN_CHANNELS};
 ghost use Rattle.std.specs.List.{list_all};
 ghost use Rattle.frame_writer.specs.Shown.{shown};
 ghost use Rattle.run_file.specs.RunFile.{RunData};
+ghost use Rattle.run_file.specs.declared.limits.TheConstants.{MAX_STEPS};
 ghost use Rattle.transmitter.specs.Written.{transmission};
 ghost use Rattle.daq_run.specs.Steps.{run_step};
-ghost use Rattle.daq_run.specs.Inner.Workers.{HaveWorked, KeepsTaking, MayComeLate};
+ghost use Rattle.daq_run.specs.Inner.Workers.{HaveWorked, IsLeftAfterSteps};
+ghost use Rattle.daq_run.specs.Inner.Workers.{KeepsTaking, MayComeLate};
 ghost use Rattle.daq_run.specs.Runs.{cost_in};
 ghost use Rattle.daq_run.specs.Threads.{ThreadsComeTo, ThreadsStandAtFault};
 
@@ -22,7 +25,7 @@ use daq_engine::{CloseFault, Ring, drain_and_close};
 use frame_writer::Out;
 use run_file::Run;
 use sampler::{Sampler, SamplerEnd};
-use std::alloc::Global;
+use std::alloc::{AllocError, Global};
 use std::snapshot::Snapshot;
 use std::sync::Wait;
 use std::sync::atomic::AtomicBool;
@@ -200,19 +203,29 @@ where
     ensures late { IfErr result.0 MayComeLate }
     ensures meanwhile { M.gives meanwhile result.1 }
 {
-    let Ok(workers) = Vec::with_capacity(alloc, samplers.len()) else {
+    let Ok((room, ends)) = room_for(alloc, samplers.len()) else {
         return (Err(SimFault::Memory), meanwhile.run(0));
     };
-    let Ok(ends) = Vec::with_capacity(alloc, samplers.len()) else {
-        return (Err(SimFault::Memory), meanwhile.run(0));
-    };
-    let (workers, all) = start_all(scope, samplers, workers, run, gate, ended);
+    let (workers, all) = start_all(scope, samplers, room, run, gate, ended);
     let done = meanwhile.run(workers.len());
     let joined = join_all(rt, workers, ends);
     if !all {
         return (Err(SimFault::NoThread), done);
     }
     (joined, done)
+}
+
+/// Room for so many threads, and for what is left of their samplers.
+fn room_for<'e, S: SendEnd>(
+    alloc: Global,
+    len: usize,
+) -> Result<(Vec<Worker<'e, S>>, Vec<SamplerEnd<S::End>>), AllocError>
+    ensures workers { IfOk result (λ r. (vec_len r.0 ≡ 0) × (len ≤ vec_capacity r.0)) }
+    ensures ends { IfOk result (λ r. (vec_len r.1 ≡ 0) × (len ≤ vec_capacity r.1)) }
+{
+    let workers = Vec::with_capacity(alloc, len)?;
+    let ends = Vec::with_capacity(alloc, len)?;
+    Ok((workers, ends))
 }
 
 /// Starts a thread for each of the samplers, up to the first for which none can be had, and tells
@@ -238,16 +251,35 @@ where
     let mut workers = room;
     for sampler in samplers {
         let flag = &ended[workers.len()];
-        let promise = WillWork {
-            sampler: Snapshot::of(&sampler),
-            run,
+        let Some(worker) = start_worker(scope, sampler, run, gate, flag) else {
+            return (workers, false);
         };
-        match scope.spawn_with(promise, move || work(sampler, run, gate, flag)) {
-            Ok(worker) => workers.push_reserved(worker),
-            Err(_) => return (workers, false),
-        }
+        workers.push_reserved(worker);
     }
     (workers, true)
+}
+
+/// Starts the thread of a sampler, if one can be had.
+fn start_worker<'s, 'e, S: SendEnd + Send + 'e, G: Gate + Sync + 'e>(
+    scope: &'s Scope<'s, &'e ()>,
+    sampler: Sampler<S>,
+    run: &'e Run,
+    gate: &'e G,
+    flag: &'e AtomicBool,
+) -> Option<Worker<'e, S>>
+where
+    S::End: Send + 'e,
+    ensures of_sampler { IfSome result (λ h. h.promise.sampler.value ≡ sampler) }
+    ensures of_run { IfSome result (λ h. h.promise.run.now ≡ run.now) }
+{
+    let promise = WillWork {
+        sampler: Snapshot::of(&sampler),
+        run,
+    };
+    match scope.spawn_with(promise, move || work(sampler, run, gate, flag)) {
+        Ok(worker) => Some(worker),
+        Err(_) => None,
+    }
 }
 
 /// Joins the threads: what is left of the samplers, in the order of the threads and in the room
@@ -271,12 +303,26 @@ fn join_all<'e, R: Threads, S: SendEnd>(
     let mut ends = room;
     let mut refused = 0;
     for worker in workers {
-        let Worked { end, refused: more } = worker.join(rt);
-        refused += more;
-        let Some(end) = end else {
+        let Some((end, more)) = join_worker(rt, worker) else {
             return Err(SimFault::EndLost);
         };
+        refused += more;
         ends.push_reserved(end);
     }
     Ok((ends, refused))
+}
+
+/// Joins the thread of a sampler: what is left of that, if anything, and how many of its steps
+/// were refused.
+fn join_worker<'e, R: Threads, S: SendEnd>(
+    rt: &R,
+    worker: Worker<'e, S>,
+) -> Option<(SamplerEnd<S::End>, u64)>
+    ensures left { IfSome result (λ r. IsLeftAfterSteps S.SendEnd S.End.RingEnd
+        worker.entry.promise.sampler.value (map run_step worker.entry.promise.run.now.steps)
+        r.0 r.1) }
+    ensures few { IfSome result (λ r. r.1 ≤ MAX_STEPS) }
+{
+    let Worked { end, refused } = worker.join(rt);
+    Some((end?, refused))
 }

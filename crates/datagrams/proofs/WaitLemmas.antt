@@ -1,14 +1,14 @@
 -- Datagrams that wait, and what is kept of them.
-use Rattle.std.proofs.Common.{◌≡◌, ℕ, zero, suc, ◌+◌, ◌-◌, ◌^◌, ◌<◌, ◌≤◌, min, Bool, true, false, ◌&&◌, if◌then◌else◌, nat_eq, List, [], ◌∷◌, ◌++◌, drop, length, get_or, set, Option, Some, None, refl, sym, ap, subst, ◌∙◌, arith}
+use Rattle.std.proofs.Common.{◌≡◌, ℕ, zero, suc, ◌+◌, ◌-◌, ◌^◌, ◌<◌, ◌≤◌, min, Bool, true, false, ◌&&◌, if◌then◌else◌, nat_eq, List, [], ◌∷◌, ◌++◌, drop, length, get_or, set, Option, Some, None, refl, sym, ap, subst, ◌∙◌, arith, below_more}
 use Rattle.std.specs.Option.{option_or}
 use Rattle.std.specs.List.{remove, slice_get}
 use Rattle.std.proofs.lemmas.List.{length-set}
 use Rattle.std.specs.Str.{bytes_eq}
 use Rattle.std.proofs.lemmas.Bool.{false≢true}
 use Rattle.std.proofs.lemmas.Bool.Decides.{Decides-eqb}
-use Rattle.std.proofs.lemmas.Option.{get_or_from_slice_get, none-some, same_Some}
+use Rattle.std.proofs.lemmas.Option.{get_or_from_slice_get, none-some, same_Some, slice_get-get_or}
 use Rattle.std.proofs.lemmas.Slice.Eq.{bytes_eq-Decides}
-use Rattle.datagrams.specs.Inner.{BeginsToWait, GainsPiece, IsFirst, IsNew, IsWholeWith}
+use Rattle.datagrams.specs.Inner.{BeginsToWait, GainsPiece, IsFirst, IsJoined, IsNew, IsWholeWith}
 use Rattle.datagrams.specs.Parts.{IsWhole, KeyOf, PieceOf, WaitOf, byte_at, byte_in, end_told, pieces_under, same_key, too_many, with_piece, without}
 use Rattle.datagrams.specs.Waiting.{AllKeep, AreWaiting, KeptOf, Keeps, MakesWhole, PartsOf, WaitsOn, WholeOf}
 
@@ -24,6 +24,28 @@ or-none (Some x) = refl
 byte_at-push : (ps : List PieceOf) (p : PieceOf) (i : ℕ) → byte_at (ps ++ p ∷ []) i ≡ option_or (byte_at ps i) (byte_in p i)
 byte_at-push [] p i = or-none (byte_in p i)
 byte_at-push (q ∷ ps) p i = ap (option_or (byte_in q i)) (byte_at-push ps p i) ∙ sym (or-assoc (byte_in q i) (byte_at ps i) (byte_in p i))
+
+front-stays : (xs : List ℕ) (y k : ℕ) → k < length xs → slice_get (xs ++ y ∷ []) k ≡ slice_get xs k
+front-stays [] y k within = absurd (omega (arith, within))
+front-stays (x ∷ xs) y zero within = refl
+front-stays (x ∷ xs) y (suc k) within = front-stays xs y k (omega (arith, within))
+
+last-is : (xs : List ℕ) (y : ℕ) → slice_get (xs ++ y ∷ []) (length xs) ≡ Some y
+last-is [] y = refl
+last-is (x ∷ xs) y = last-is xs y
+
+-- a byte more is what came at its place
+pub joined-more : (came : ℕ → Option ℕ) (bytes : List ℕ) (b i : ℕ) → length bytes ≡ i → ((k : ℕ) → k < i → came k ≡ slice_get bytes k) → came i ≡ Some b
+    → (k : ℕ) → k < i + 1 → came k ≡ slice_get (bytes ++ b ∷ []) k
+joined-more came bytes b i many each here =
+    below_more (λ k. came k ≡ slice_get (bytes ++ b ∷ []) k) i (λ k below. each k below ∙ sym (front-stays bytes b k (omega (arith, many, below))))
+    (subst (λ n. came n ≡ slice_get (bytes ++ b ∷ []) n) many (ap came many ∙ here ∙ sym (last-is bytes b)))
+
+-- where nothing came no byte of what is joined stands
+pub none-joined : (slots : List (Option ℕ)) (p : PieceOf) (end i : ℕ) (bytes : List ℕ) → IsJoined slots p end bytes → i < end → option_or (get_or slots i None) (byte_in p i) ≡ None → ⊥
+none-joined slots p end i bytes j below none =
+    let within : i < length bytes = omega (arith, below, j.many) in
+    none-some _ (sym none ∙ j.each i within ∙ slice_get-get_or bytes i 0 within)
 
 end_told-push : (ps : List PieceOf) (p : PieceOf) → end_told (ps ++ p ∷ []) ≡ option_or (end_told ps) p.end
 end_told-push [] p = or-none p.end

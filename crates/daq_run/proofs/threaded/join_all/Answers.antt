@@ -1,14 +1,36 @@
-use Rattle.std.proofs.Common.{◌≡◌, ◌∷◌, [], ◌+◌, ◌++◌, All, IfSome, map, sym, subst, ◌∙◌, arith, length-append}
+use Rattle.std.proofs.Common.{◌≡◌, ◌∷◌, [], ◌+◌, ◌++◌, All, length, map, refl, sym, subst, ◌∙◌, arith, length-append}
 use Rattle.std.specs.declared.thread.PromisedHandle.{PromisedHandle}
 use Rattle.std.proofs.lemmas.Iterator.Adapters.{YieldsList-from_vec}
-use Rattle.std.proofs.lemmas.Iterator.Consumers.{YieldsList-end}
+use Rattle.std.proofs.lemmas.Iterator.Consumers.{YieldsList-end, YieldsList-turn}
 use Rattle.std.proofs.lemmas.List.{map-append, map-id}
 use Rattle.run_file.specs.RunFile.{RunData}
 use Rattle.daq_run.specs.Steps.{run_step}
 use Rattle.daq_run.specs.Inner.Workers.{HaveWorked, IsLeftAfterSteps}
 use Rattle.daq_run.specs.declared.worker.WillWork.{WillWork}
-use Rattle.daq_run.proofs.WorkLemmas.{all-before, worked-more}
+use Rattle.daq_run.proofs.WorkLemmas.{all-before, worked-more, worked-none}
 use Rattle.daq_run.proofs.threaded.join_all.Goals as goal
+
+-- at first there is none
+pub loop-worker-init : goal.loop-worker-init
+loop-worker-init g c =
+    let room = c.args.room in
+    let none : length room.items ≡ 0 = omega (arith, c.requires.empty, room.ok.0) in
+    record {
+      worked = λ run all. worked-none g.S.SendEnd g.S.End.RingEnd (map run_step run.steps) room.items none;
+      small = omega arith;
+      as_many = c.requires.empty;
+      room = refl;
+    }
+
+-- there is room for each
+pub push_reserved-requires : goal.push_reserved-requires
+push_reserved-requires g c =
+    let workers = c.args.workers in
+    let given = c.into_iter-worker-iterator.ensures.into_iter_gives in
+    let turn =
+    YieldsList-turn (YieldsList-from_vec {s = c.into_iter-worker-iterator.result} workers.items given.0 (given.1 ∙ workers.ok.0))
+    c.loop-worker.yielded c.loop-worker.worker-iterator c.loop-worker.yielded_by c.next.result c.next.new.self c.in-Some.worker c.in-Some.is c.next.ensures.steps in
+    omega (arith, turn.0, c.requires.enough, c.loop-worker.invariant.as_many, c.loop-worker.invariant.room, workers.ok.0)
 
 -- one thread more kept its promise
 pub loop-worker-preserved : goal.loop-worker-preserved
@@ -20,19 +42,19 @@ loop-worker-preserved g c =
     let ys = c.loop-worker.yielded in
     let xs = c.loop-worker.ends.items in
     let zs = c.push_reserved.new.self.items in
-    let e = c.in-Some-end.end in
+    let one = c.in-Some-join_worker in
+    let e = one.end in
     let n = c.loop-worker.refused in
-    let m = c.join-end.result.refused in
+    let m = one.more in
     let value = λ (h : PromisedHandle _ (WillWork _ _)). h.promise.sampler.value in
     record {
       worked = λ run all.
           let both = all-before (λ (k : PromisedHandle _ (WillWork _ _)). k.promise.run.now ≡ run) ys h all in
-          let kept = subst (λ o. IfSome o (λ left. IsLeftAfterSteps send ring (value h) (map run_step h.promise.run.now.steps) left m)) c.in-Some-end.is c.join-end.ensures in
-          let own = subst (λ (r : RunData). IsLeftAfterSteps send ring (value h) (map run_step r.steps) e m) both.1 kept in
+          let own = subst (λ (r : RunData). IsLeftAfterSteps send ring (value h) (map run_step r.steps) e m) both.1 one.ensures.left in
           let more = worked-more send ring (map value ys) (value h) (map run_step run.steps) xs e n m (i.worked run both.0) own in
           subst (λ es. HaveWorked send ring (map value (ys ++ h ∷ [])) (map run_step run.steps) es (n + m)) (sym c.push_reserved.ensures.items)
           (subst (λ ss. HaveWorked send ring ss (map run_step run.steps) (xs ++ e ∷ []) (n + m)) (sym (map-append value ys (h ∷ []))) more);
-      small = omega (arith, i.small, c.join-end.result.few, length-append ys (h ∷ []));
+      small = omega (arith, i.small, one.ensures.few, length-append ys (h ∷ []));
       as_many = omega (arith, i.as_many, length-append ys (h ∷ []), c.push_reserved.ensures.len);
       room = c.push_reserved.ensures.capacity ∙ i.room;
     }
