@@ -18,40 +18,32 @@ pub struct CommandWords<'a> {
 
 impl<'a> Display for CommandWords<'a> {
     fn fmt<W: fmt::Write>(&self, f: &mut fmt::Formatter<W>) -> fmt::Result {
-        let order = self.form.order;
         match self.packet {
-            [0xF4 | 0xF6 | 0xC7..=0xE3, bytes @ ..] if !self.form.has_order => {
-                write_name(f, self.packet)?;
-                write_bytes(f, bytes)
-            }
+            [0xF4 | 0xF6 | 0xC7..=0xE3, ..] if !self.form.has_order => write_raw(f, self.packet),
             [code, bytes @ ..] if self.packet.len() < least_len(*code, bytes) => {
                 write_name(f, self.packet)?;
                 f.write_str(", too short")?;
                 write_bytes(f, bytes)
             }
-            [0xC7, _, entries @ ..] => write_multiple(f, order, self.packet, entries),
-            [0xF5 | 0xFA..=0xFF | 0xD3..=0xE3, ..] => {
-                let packet = IntelOrder::of(order, self.packet);
-                let words = RequestText {
-                    packet: packet.bytes(),
-                };
-                write!(f, "{words}")
-            }
-            [0xF6, _, _, extension, a, b, c, d, ..] => {
-                write_name(f, self.packet)?;
-                write_place(f, *extension, dword(order, *a, *b, *c, *d))
-            }
-            [0xF4, count, _, extension, a, b, c, d, ..] => {
-                write_name(f, self.packet)?;
-                write!(f, " count {count},")?;
-                write_place(f, *extension, dword(order, *a, *b, *c, *d))
-            }
-            [_, bytes @ ..] => {
-                write_name(f, self.packet)?;
-                write_bytes(f, bytes)
-            }
-            [] => f.write_str("an empty command"),
+            _ => write_whole(f, self.form.order, self.packet),
         }
+    }
+}
+
+/// Writes a command of which no byte is missing, and whose numbers stand in this order.
+fn write_whole<W: fmt::Write>(
+    f: &mut fmt::Formatter<W>,
+    order: ByteOrder,
+    packet: &[u8],
+) -> fmt::Result {
+    match packet {
+        [0xC7, _, entries @ ..] => write_multiple(f, order, packet, entries),
+        [0xF5 | 0xFA..=0xFF | 0xD3..=0xE3, ..] => {
+            let packet = IntelOrder::of(order, packet);
+            write_request(f, packet.bytes())
+        }
+        [0xF4 | 0xF6, ..] => write_of_place(f, order, packet),
+        _ => write_raw(f, packet),
     }
 }
 
@@ -79,6 +71,36 @@ fn write_name<W: fmt::Write>(f: &mut fmt::Formatter<W>, packet: &[u8]) -> fmt::R
     }
 }
 
+/// Writes the name of a command, and the bytes behind its code.
+fn write_raw<W: fmt::Write>(f: &mut fmt::Formatter<W>, packet: &[u8]) -> fmt::Result {
+    let [_, bytes @ ..] = packet else {
+        return f.write_str("an empty command");
+    };
+    write_name(f, packet)?;
+    write_bytes(f, bytes)
+}
+
+/// Writes a command whose numbers stand in the order of Intel.
+fn write_request<W: fmt::Write>(f: &mut fmt::Formatter<W>, packet: &[u8]) -> fmt::Result {
+    write!(f, "{}", RequestText { packet })
+}
+
+/// Writes SET_MTA or SHORT_UPLOAD, which name an address.
+fn write_of_place<W: fmt::Write>(
+    f: &mut fmt::Formatter<W>,
+    order: ByteOrder,
+    packet: &[u8],
+) -> fmt::Result {
+    let [code, count, _, extension, a, b, c, d, ..] = packet else {
+        return write_raw(f, packet);
+    };
+    write_name(f, packet)?;
+    if *code == 0xF4 {
+        write!(f, " count {count},")?;
+    }
+    write_place(f, *extension, dword(order, *a, *b, *c, *d))
+}
+
 /// Writes an address.
 fn write_place<W: fmt::Write>(
     f: &mut fmt::Formatter<W>,
@@ -95,12 +117,22 @@ fn write_multiple<W: fmt::Write>(
     packet: &[u8],
     entries: &[u8],
 ) -> fmt::Result {
-    write!(f, "{}", RequestText { packet })?;
+    write_request(f, packet)?;
     for entry in entries.chunks_exact(8) {
-        if let [bit, size, a, b, c, d, extension, _] = entry {
-            write!(f, "; bit offset {bit}, size {size},")?;
-            write_place(f, *extension, dword(order, *a, *b, *c, *d))?;
-        }
+        write_entry(f, order, entry)?;
     }
     Ok(())
+}
+
+/// Writes an entry of WRITE_DAQ_MULTIPLE.
+fn write_entry<W: fmt::Write>(
+    f: &mut fmt::Formatter<W>,
+    order: ByteOrder,
+    entry: &[u8],
+) -> fmt::Result {
+    let [bit, size, a, b, c, d, extension, _] = entry else {
+        return Ok(());
+    };
+    write!(f, "; bit offset {bit}, size {size},")?;
+    write_place(f, *extension, dword(order, *a, *b, *c, *d))
 }

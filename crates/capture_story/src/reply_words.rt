@@ -60,6 +60,24 @@ fn write_short<W: fmt::Write>(f: &mut fmt::Formatter<W>, bytes: &[u8]) -> fmt::R
     write_bytes(f, bytes)
 }
 
+/// Writes numbers, each behind its name.
+fn write_numbers<W: fmt::Write>(f: &mut fmt::Formatter<W>, numbers: &[(&str, u16)]) -> fmt::Result {
+    for (name, number) in numbers {
+        write!(f, ", {name} {number}")?;
+    }
+    Ok(())
+}
+
+/// Writes a byte in hexadecimal, behind its name.
+fn write_byte<W: fmt::Write>(f: &mut fmt::Formatter<W>, what: &str, byte: u8) -> fmt::Result {
+    write!(f, ", {what} 0x{byte:02x}")
+}
+
+/// Writes the name of something behind what it is.
+fn write_name<W: fmt::Write>(f: &mut fmt::Formatter<W>, what: &str, name: &str) -> fmt::Result {
+    write!(f, ", {what} {name}")
+}
+
 /// Writes what the reply to CONNECT says, whose numbers stand in the order that it tells.
 fn write_connect<W: fmt::Write>(f: &mut fmt::Formatter<W>, bytes: &[u8]) -> fmt::Result {
     let [resources, mode, max_cto, a, b, ..] = bytes else {
@@ -70,9 +88,11 @@ fn write_connect<W: fmt::Write>(f: &mut fmt::Formatter<W>, bytes: &[u8]) -> fmt:
     } else {
         ("MSB_FIRST", ByteOrder::MsbFirst)
     };
-    write!(f, ", resources 0x{resources:02x}, byte order {name}")?;
-    write!(f, ", ADDRESS_GRANULARITY {}", granularity_of(*mode))?;
-    write!(f, ", MAX_CTO {max_cto}, MAX_DTO {}", word(order, *a, *b))
+    write_byte(f, "resources", *resources)?;
+    write_name(f, "byte order", name)?;
+    write_name(f, "ADDRESS_GRANULARITY", granularity_of(*mode))?;
+    let max_dto = word(order, *a, *b);
+    write_numbers(f, &[("MAX_CTO", *max_cto as u16), ("MAX_DTO", max_dto)])
 }
 
 /// The name of the address granularity that COMM_MODE_BASIC tells.
@@ -87,19 +107,20 @@ fn granularity_of(mode: u8) -> &'static str {
 
 /// Writes what the reply to GET_STATUS says.
 fn write_status<W: fmt::Write>(f: &mut fmt::Formatter<W>, bytes: &[u8]) -> fmt::Result {
-    match bytes {
-        [status, ..] if *status / 64 % 2 == 1 => {
-            write!(f, ", session status 0x{status:02x}: DAQ runs")
-        }
-        [status, ..] => write!(f, ", session status 0x{status:02x}"),
-        [] => write_short(f, bytes),
+    let [status, ..] = bytes else {
+        return write_short(f, bytes);
+    };
+    write_byte(f, "session status", *status)?;
+    if *status / 64 % 2 == 1 {
+        return f.write_str(": DAQ runs");
     }
+    Ok(())
 }
 
 /// Writes what the reply to START_STOP_DAQ_LIST says.
 fn write_first_pid<W: fmt::Write>(f: &mut fmt::Formatter<W>, bytes: &[u8]) -> fmt::Result {
     match bytes {
-        [first_pid, ..] => write!(f, ", FIRST_PID 0x{first_pid:02x}"),
+        [first_pid, ..] => write_byte(f, "FIRST_PID", *first_pid),
         [] => write_short(f, bytes),
     }
 }
@@ -113,9 +134,15 @@ fn write_list_mode<W: fmt::Write>(
     let [mode, _, _, a, b, prescaler, priority, ..] = bytes else {
         return write_short(f, bytes);
     };
-    let channel = word(order, *a, *b);
-    write!(f, ", mode 0x{mode:02x}, channel {channel}, ")?;
-    write!(f, "prescaler {prescaler}, priority {priority}")
+    write_byte(f, "mode", *mode)?;
+    write_numbers(
+        f,
+        &[
+            ("channel", word(order, *a, *b)),
+            ("prescaler", *prescaler as u16),
+            ("priority", *priority as u16),
+        ],
+    )
 }
 
 /// Writes what the reply to GET_DAQ_CLOCK says.
@@ -140,11 +167,15 @@ fn write_entry<W: fmt::Write>(
         return write_short(f, bytes);
     };
     let address = dword(order, *a, *b, *c, *d);
-    write!(
+    write_numbers(
         f,
-        ", bit offset {bit}, size {size}, extension {extension}, "
+        &[
+            ("bit offset", *bit as u16),
+            ("size", *size as u16),
+            ("extension", *extension as u16),
+        ],
     )?;
-    write!(f, "address 0x{address:04x}")
+    write!(f, ", address 0x{address:04x}")
 }
 
 /// Writes what the reply to GET_DAQ_PROCESSOR_INFO says.
@@ -156,14 +187,17 @@ fn write_processor<W: fmt::Write>(
     let [properties, a, b, c, d, min_daq, key, ..] = bytes else {
         return write_short(f, bytes);
     };
-    let (max_daq, max_event_channel) = (word(order, *a, *b), word(order, *c, *d));
-    write!(f, ", properties 0x{properties:02x}, MAX_DAQ {max_daq}, ")?;
-    write!(
+    write_byte(f, "properties", *properties)?;
+    write_numbers(
         f,
-        "MAX_EVENT_CHANNEL {max_event_channel}, MIN_DAQ {min_daq}, "
+        &[
+            ("MAX_DAQ", word(order, *a, *b)),
+            ("MAX_EVENT_CHANNEL", word(order, *c, *d)),
+            ("MIN_DAQ", *min_daq as u16),
+        ],
     )?;
-    write!(f, "identification field {}, ", field_of(*key))?;
-    write!(f, "overload indication {}", overload_of(*properties))
+    write_name(f, "identification field", field_of(*key))?;
+    write_name(f, "overload indication", overload_of(*properties))
 }
 
 /// The name of the identification field that DAQ_KEY_BYTE tells.
@@ -195,12 +229,15 @@ fn write_resolution<W: fmt::Write>(
     let [granularity, size, _, _, mode, a, b, ..] = bytes else {
         return write_short(f, bytes);
     };
-    write!(f, ", GRANULARITY_ODT_ENTRY_SIZE_DAQ {granularity}, ")?;
-    write!(
+    write_numbers(
         f,
-        "MAX_ODT_ENTRY_SIZE_DAQ {size}, TIMESTAMP_MODE 0x{mode:02x}, "
+        &[
+            ("GRANULARITY_ODT_ENTRY_SIZE_DAQ", *granularity as u16),
+            ("MAX_ODT_ENTRY_SIZE_DAQ", *size as u16),
+        ],
     )?;
-    write!(f, "TIMESTAMP_TICKS {}", word(order, *a, *b))
+    write_byte(f, "TIMESTAMP_MODE", *mode)?;
+    write_numbers(f, &[("TIMESTAMP_TICKS", word(order, *a, *b))])
 }
 
 /// Writes what the reply to GET_DAQ_LIST_INFO says.
@@ -212,9 +249,15 @@ fn write_list<W: fmt::Write>(
     let [properties, max_odt, max_entries, a, b, ..] = bytes else {
         return write_short(f, bytes);
     };
-    write!(f, ", properties 0x{properties:02x}, MAX_ODT {max_odt}, ")?;
-    write!(f, "MAX_ODT_ENTRIES {max_entries}, ")?;
-    write!(f, "FIXED_EVENT {}", word(order, *a, *b))
+    write_byte(f, "properties", *properties)?;
+    write_numbers(
+        f,
+        &[
+            ("MAX_ODT", *max_odt as u16),
+            ("MAX_ODT_ENTRIES", *max_entries as u16),
+            ("FIXED_EVENT", word(order, *a, *b)),
+        ],
+    )
 }
 
 /// Writes what the reply to GET_DAQ_EVENT_INFO says.
@@ -222,9 +265,14 @@ fn write_event<W: fmt::Write>(f: &mut fmt::Formatter<W>, bytes: &[u8]) -> fmt::R
     let [properties, max_daq_list, _, cycle, unit, priority, ..] = bytes else {
         return write_short(f, bytes);
     };
-    write!(
+    write_byte(f, "properties", *properties)?;
+    write_numbers(
         f,
-        ", properties 0x{properties:02x}, MAX_DAQ_LIST {max_daq_list}, "
-    )?;
-    write!(f, "cycle {cycle}, unit {unit}, priority {priority}")
+        &[
+            ("MAX_DAQ_LIST", *max_daq_list as u16),
+            ("cycle", *cycle as u16),
+            ("unit", *unit as u16),
+            ("priority", *priority as u16),
+        ],
+    )
 }

@@ -116,15 +116,27 @@ fn write_unknown(
     if table.get("script").is_some() {
         return writeln!(why, "{name}: this is a session file: try ./xcpslave");
     }
+    let Some(key) = unknown_key(table) else {
+        return Ok(());
+    };
+    write_place(why, name, line_of_key(text, key))?;
+    write_near(why, key, near_key(alloc, key, &KEYS)?)
+}
+
+/// Writes a key that is none of a run file, and the nearest one that is.
+fn write_near(why: &mut String, key: &str, near: &str) -> Result<(), AllocError> {
+    writeln!(why, "{key} is no key of a run file")?;
+    writeln!(why, "the nearest key is {near}")
+}
+
+/// The first key of a table that is none of a run file.
+fn unknown_key(table: &Table) -> Option<&str> {
     for key in table.keys() {
-        let key = key.as_str();
-        if !is_key(key) {
-            write_place(why, name, line_of_key(text, key))?;
-            writeln!(why, "{key} is no key of a run file")?;
-            return writeln!(why, "the nearest key is {}", near_key(alloc, key, &KEYS)?);
+        if !is_key(key.as_str()) {
+            return Some(key.as_str());
         }
     }
-    Ok(())
+    None
 }
 
 /// Writes the string at a place of an array, and where it stands.
@@ -136,13 +148,7 @@ pub fn write_string(
     key: &str,
     i: usize,
 ) -> Result<(), AllocError> {
-    let Some(value) = table.get(key) else {
-        return Ok(());
-    };
-    let Some(array) = value.as_array() else {
-        return Ok(());
-    };
-    let Some(value) = array.as_slice().get(i) else {
+    let Some(value) = value_at(table, key, i) else {
         return Ok(());
     };
     let Some(string) = value.as_str() else {
@@ -150,6 +156,14 @@ pub fn write_string(
     };
     write_place(why, name, line_of_string(text, string))?;
     writeln!(why, "string {i} of {key} is {value}")
+}
+
+/// The value at a place of the array that a key has.
+fn value_at<'t>(table: &'t Table, key: &str, i: usize) -> Option<&'t Value> {
+    let Some(Value::Array(array)) = table.get(key) else {
+        return None;
+    };
+    array.as_slice().get(i)
 }
 
 /// Writes the name of a text and the number of a line, if it was found.

@@ -1,7 +1,7 @@
 //! Why a recording breaks off.
 use crate::byte_text::ByteText;
 use crate::stop::{Stop, front_of, write_stop};
-use daq_reader::{FrameFault, ListReader, ReadFault, Reader};
+use daq_reader::{FrameFault, ListReader, ListShape, ReadFault, Reader};
 use std::alloc::{AllocError, Global};
 use xcp_base::limits::{MAX_DTO, MAX_LISTS};
 
@@ -38,17 +38,27 @@ pub fn why_broken(
 ) -> Result<String, AllocError> {
     let mut why = String::new(alloc);
     write_found(&mut why, stop)?;
+    write_expected(&mut why, stop, reader, fault)?;
+    Ok(why)
+}
+
+/// Writes what was expected at a place, where the next frame has this fault, or none is left.
+fn write_expected(
+    why: &mut String,
+    stop: Stop<'_>,
+    reader: &Reader,
+    fault: Option<ReadFault>,
+) -> Result<(), AllocError> {
     let counter = stop.frame % 65_536;
     match fault {
         Some(ReadFault::Frame(FrameFault::Torn)) => writeln!(
             why,
             "expected: a whole frame: LEN of 1 or more, CTR {counter}, and a packet of LEN bytes"
-        )?,
-        Some(ReadFault::Frame(FrameFault::Jump)) => writeln!(why, "expected: CTR {counter}")?,
-        Some(ReadFault::Packet(_)) => write_lists(&mut why, reader, told_by(reader, stop.rest))?,
-        None => write_lists(&mut why, reader, Told::Waiting)?,
+        ),
+        Some(ReadFault::Frame(FrameFault::Jump)) => writeln!(why, "expected: CTR {counter}"),
+        Some(ReadFault::Packet(_)) => write_lists(why, reader, told_by(reader, stop.rest)),
+        None => write_lists(why, reader, Told::Waiting),
     }
-    Ok(why)
 }
 
 /// Writes a place, and what stands there in the place of a frame.
@@ -135,18 +145,21 @@ fn write_list(why: &mut String, lead: &str, list: &ListReader) -> Result<(), All
         why,
         "{lead}: list {number}, ODT {k}, {len} bytes that begin with "
     )?;
+    write_field(why, shape, shape.pid(k))?;
+    if k == 0 {
+        why.push_str(", or with ")?;
+        write_field(why, shape, shape.pid(k) | 0x80)?;
+        why.push_str(" if samples were dropped")?;
+    }
+    why.push_str("\n")
+}
+
+/// Writes the identification field of the packets of a list that have this PID.
+fn write_field(why: &mut String, shape: &ListShape, pid: u8) -> Result<(), AllocError> {
     let id = shape.form().id;
-    let field = id.field(shape.pid(k), number);
+    let field = id.field(pid, shape.list());
     let bytes = ByteText {
         bytes: &field[..id.field_len()],
     };
-    write!(why, "{bytes}")?;
-    if k == 0 {
-        let marked = id.field(shape.pid(k) | 0x80, number);
-        let bytes = ByteText {
-            bytes: &marked[..id.field_len()],
-        };
-        write!(why, ", or with {bytes} if samples were dropped")?;
-    }
-    why.push_str("\n")
+    write!(why, "{bytes}")
 }

@@ -36,35 +36,96 @@ pub fn write_name<W: fmt::Write>(f: &mut fmt::Formatter<W>, packet: &[u8]) -> fm
 fn write_fields<W: fmt::Write>(f: &mut fmt::Formatter<W>, command: Command) -> fmt::Result {
     match command {
         Command::FreeDaq | Command::ReadDaq => Ok(()),
-        Command::AllocDaq { count } => write!(f, " count {count}"),
-        Command::AllocOdt { list, count } => write!(f, " list {list}, count {count}"),
-        Command::AllocOdtEntry { list, odt, count } => {
-            write!(f, " list {list}, ODT {odt}, count {count}")
+        Command::AllocDaq { count } => write_numbers(f, &[("count", count)]),
+        Command::AllocOdt { list, count } => {
+            write_numbers(f, &[("list", list), ("count", count as u16)])
         }
-        Command::SetDaqPtr { list, odt, entry } => {
-            write!(f, " list {list}, ODT {odt}, entry {entry}")
-        }
+        Command::AllocOdtEntry { list, odt, count } => write_odt(f, list, odt, "count", count),
+        Command::SetDaqPtr { list, odt, entry } => write_odt(f, list, odt, "entry", entry),
         Command::WriteDaq {
             bit,
             size,
             ext,
             addr,
-        } => write!(
-            f,
-            " bit offset {bit}, size {size}, extension {ext}, address 0x{addr:04x}"
-        ),
+        } => write_entry(f, bit, size, ext, addr),
         Command::SetDaqListMode {
             mode,
             list,
             channel,
             prescaler,
             priority,
-        } => {
-            write!(f, " mode 0x{mode:02x}, list {list}, channel {channel}, ")?;
-            write!(f, "prescaler {prescaler}, priority {priority}")
+        } => write_list_mode(f, mode, [list, channel, prescaler as u16, priority as u16]),
+        Command::StartStopDaqList { mode, list } => {
+            write_numbers(f, &[("mode", mode as u16), ("list", list)])
         }
-        Command::StartStopDaqList { mode, list } => write!(f, " mode {mode}, list {list}"),
-        Command::StartStopSynch { mode } => write!(f, " mode {mode}"),
-        Command::ClearDaqList { list } => write!(f, " list {list}"),
+        Command::StartStopSynch { mode } => write_numbers(f, &[("mode", mode as u16)]),
+        Command::ClearDaqList { list } => write_numbers(f, &[("list", list)]),
     }
+}
+
+/// Writes which ODT a command is for, and one number more.
+fn write_odt<W: fmt::Write>(
+    f: &mut fmt::Formatter<W>,
+    list: u16,
+    odt: u8,
+    what: &str,
+    number: u8,
+) -> fmt::Result {
+    write_numbers(
+        f,
+        &[("list", list), ("ODT", odt as u16), (what, number as u16)],
+    )
+}
+
+/// Writes the fields of WRITE_DAQ.
+fn write_entry<W: fmt::Write>(
+    f: &mut fmt::Formatter<W>,
+    bit: u8,
+    size: u8,
+    extension: u8,
+    address: u32,
+) -> fmt::Result {
+    write_numbers(f, &[("bit offset", bit as u16), ("size", size as u16)])?;
+    f.write_str(",")?;
+    write_place(f, extension, address)
+}
+
+/// Writes the fields of SET_DAQ_LIST_MODE.
+fn write_list_mode<W: fmt::Write>(
+    f: &mut fmt::Formatter<W>,
+    mode: u8,
+    [list, channel, prescaler, priority]: [u16; 4],
+) -> fmt::Result {
+    write!(f, " mode 0x{mode:02x},")?;
+    write_numbers(
+        f,
+        &[
+            ("list", list),
+            ("channel", channel),
+            ("prescaler", prescaler),
+            ("priority", priority),
+        ],
+    )
+}
+
+/// Writes numbers, each behind its name.
+pub fn write_numbers<W: fmt::Write>(
+    f: &mut fmt::Formatter<W>,
+    numbers: &[(&str, u16)],
+) -> fmt::Result {
+    let mut lead = "";
+    for (name, number) in numbers {
+        write!(f, "{lead} {name} {number}")?;
+        lead = ",";
+    }
+    Ok(())
+}
+
+/// Writes an address extension and an address.
+pub fn write_place<W: fmt::Write>(
+    f: &mut fmt::Formatter<W>,
+    extension: u8,
+    address: u32,
+) -> fmt::Result {
+    write!(f, " extension {extension}, address 0x{address:04x}")
 }

@@ -16,31 +16,54 @@ pub fn why_other_run(
     front: &[u8],
 ) -> Result<String, AllocError> {
     let mut why = String::new(alloc);
-    let mut unread = Unread::new(replies, 0);
-    let mut stop = Stop {
+    let start = Stop {
         name,
         byte: 0,
         frame: 0,
         rest: front,
     };
-    for (i, packet) in run.setup().iter().enumerate() {
-        let whole = unread.rest();
-        let counter = unread.counter();
-        let Ok(Some(reply)) = unread.next_packet() else {
-            return Ok(why);
+    write_other(&mut why, run.setup(), Unread::new(replies, 0), start)?;
+    Ok(why)
+}
+
+/// Writes the first reply to some packets that isn't there, and what stands in its place.
+fn write_other(
+    why: &mut String,
+    packets: &[Vec<u8>],
+    replies: Unread<'_>,
+    start: Stop<'_>,
+) -> Result<(), AllocError> {
+    let mut replies = replies;
+    let mut stop = start;
+    for (i, packet) in packets.iter().enumerate() {
+        let counter = replies.counter();
+        let Some(frame) = next_frame(&mut replies) else {
+            return Ok(());
         };
-        let frame = front_of(whole, 4 + reply.len());
         if !stop.rest.starts_with(frame) {
-            write_stop(&mut why, stop, frame.len())?;
-            let bytes = ByteText { bytes: frame };
-            writeln!(why, "\nexpected: {bytes}")?;
+            write_difference(why, stop, frame)?;
             let mut expected = Unread::new(frame, counter);
-            write_packet(&mut why, i, packet.as_slice(), &mut expected)?;
-            return Ok(why);
+            return write_packet(why, i, packet.as_slice(), &mut expected);
         }
         stop = behind(stop, frame.len());
     }
-    Ok(why)
+    Ok(())
+}
+
+/// The frame of the next reply, if there is one.
+fn next_frame<'a>(replies: &mut Unread<'a>) -> Option<&'a [u8]> {
+    let whole = replies.rest();
+    match replies.next_packet() {
+        Ok(Some(reply)) => Some(front_of(whole, 4 + reply.len())),
+        _ => None,
+    }
+}
+
+/// Writes a place, and the frame that was expected there.
+fn write_difference(why: &mut String, stop: Stop<'_>, frame: &[u8]) -> Result<(), AllocError> {
+    write_stop(why, stop, frame.len())?;
+    let bytes = ByteText { bytes: frame };
+    writeln!(why, "\nexpected: {bytes}")
 }
 
 /// The place behind one more frame, of `len` bytes.

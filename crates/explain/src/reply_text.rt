@@ -19,13 +19,16 @@ impl<'a> Display for ReplyText<'a> {
         match reply_of(self.packet) {
             Some(Reply::Positive) => f.write_str("RES"),
             Some(Reply::Started { first_pid }) => write!(f, "RES, FIRST_PID 0x{first_pid:02x}"),
-            Some(Reply::Read { size, addr, .. }) => {
-                write!(f, "RES, size {size}, address 0x{addr:04x}")
-            }
+            Some(Reply::Read { size, addr, .. }) => write_read(f, size, addr),
             Some(Reply::Error(code)) => f.write_str(name_of(code)),
             None => f.write_str("no reply"),
         }
     }
+}
+
+/// Writes the reply to READ_DAQ.
+fn write_read<W: fmt::Write>(f: &mut fmt::Formatter<W>, size: u8, address: u32) -> fmt::Result {
+    write!(f, "RES, size {size}, address 0x{address:04x}")
 }
 
 /// The reply that has this packet.

@@ -1,5 +1,5 @@
 //! The packets of a master are written in words, by the standard's names.
-use crate::command_text::{CommandText, write_name};
+use crate::command_text::{CommandText, write_name, write_numbers, write_place};
 use std::fmt::{self, Display};
 
 /// The command of a packet of a master by its name (ASAM MCD-1 XCP, protocol layer), with its
@@ -16,15 +16,7 @@ impl<'a> Display for RequestText<'a> {
             [0xFA, kind, ..] => write_number(f, self.packet, "kind", *kind as u16),
             [0xF5, count, ..] => write_number(f, self.packet, "count", *count as u16),
             [0xFB..=0xFE | 0xD9..=0xDC, ..] => write_name(f, self.packet),
-            [0xF6, _, _, extension, a, b, c, d, ..] => {
-                write_name(f, self.packet)?;
-                write_place(f, *extension, [*a, *b, *c, *d])
-            }
-            [0xF4, count, _, extension, a, b, c, d, ..] => {
-                write_number(f, self.packet, "count", *count as u16)?;
-                f.write_str(",")?;
-                write_place(f, *extension, [*a, *b, *c, *d])
-            }
+            [0xF4 | 0xF6, ..] => write_of_place(f, self.packet),
             [0xC7, count, entries @ ..] => write_multiple(f, *count, entries.len()),
             _ => write_of_list(f, self.packet),
         }
@@ -39,7 +31,21 @@ fn write_number<W: fmt::Write>(
     number: u16,
 ) -> fmt::Result {
     write_name(f, packet)?;
-    write!(f, " {what} {number}")
+    write_numbers(f, &[(what, number)])
+}
+
+/// Writes SET_MTA or SHORT_UPLOAD, which name an address.
+fn write_of_place<W: fmt::Write>(f: &mut fmt::Formatter<W>, packet: &[u8]) -> fmt::Result {
+    let [code, count, _, extension, a, b, c, d, ..] = packet else {
+        return f.write_str("too short for its command");
+    };
+    if *code == 0xF6 {
+        write_name(f, packet)?;
+    } else {
+        write_number(f, packet, "count", *count as u16)?;
+        f.write_str(",")?;
+    }
+    write_place(f, *extension, u32::from_le_bytes([*a, *b, *c, *d]))
 }
 
 /// The most entries of WRITE_DAQ_MULTIPLE that find room in a packet of 64 bytes. How many a slave
@@ -63,22 +69,11 @@ fn write_of_list<W: fmt::Write>(f: &mut fmt::Formatter<W>, packet: &[u8]) -> fmt
     match packet {
         [0xE3 | 0xDF | 0xD8, _, a, b, ..] => write_number(f, packet, "list", word(*a, *b)),
         [0xD7, _, a, b, ..] => write_number(f, packet, "channel", word(*a, *b)),
-        [
-            0xFF | 0xFA | 0xF6 | 0xF5 | 0xF4 | 0xE3 | 0xDF | 0xD8 | 0xD7 | 0xC7,
-            ..
-        ] => f.write_str("too short for its command"),
+        [0xFF | 0xFA | 0xF5 | 0xE3 | 0xDF | 0xD8 | 0xD7 | 0xC7, ..] => {
+            f.write_str("too short for its command")
+        }
         _ => write!(f, "{}", CommandText { packet }),
     }
-}
-
-/// Writes an address extension and an address.
-fn write_place<W: fmt::Write>(
-    f: &mut fmt::Formatter<W>,
-    extension: u8,
-    address: [u8; 4],
-) -> fmt::Result {
-    let address = u32::from_le_bytes(address);
-    write!(f, " extension {extension}, address 0x{address:04x}")
 }
 
 /// The WORD that stands in two bytes.

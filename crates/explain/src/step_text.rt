@@ -15,13 +15,30 @@ impl<'a> Display for StepText<'a> {
                 channel,
                 stamp,
                 image,
-            } => {
-                let len = image.len();
-                write!(f, "trigger {channel} {stamp}, image length {len}")
-            }
-            Step::Start { channel, list } => write!(f, "start {channel} {list}"),
-            Step::Stop { channel, list } => write!(f, "stop {channel} {list}"),
+            } => write_trigger(f, channel, stamp, image.len()),
+            Step::Start { channel, list } => write_switch(f, "start", channel, list),
+            Step::Stop { channel, list } => write_switch(f, "stop", channel, list),
             Step::Pump => f.write_str("pump"),
         }
     }
+}
+
+/// Writes a trigger with an image of this length.
+fn write_trigger<W: fmt::Write>(
+    f: &mut fmt::Formatter<W>,
+    channel: u8,
+    stamp: u32,
+    len: usize,
+) -> fmt::Result {
+    write!(f, "trigger {channel} {stamp}, image length {len}")
+}
+
+/// Writes a step that starts or stops a DAQ list.
+fn write_switch<W: fmt::Write>(
+    f: &mut fmt::Formatter<W>,
+    word: &str,
+    channel: u8,
+    list: u8,
+) -> fmt::Result {
+    write!(f, "{word} {channel} {list}")
 }

@@ -6,7 +6,7 @@ use crate::frame_lines::FrameLines;
 use crate::reply_text::ReplyText;
 use crate::step_log::StepLog;
 use crate::step_text::StepText;
-use daq_reader::{Unread, read, reader_of};
+use daq_reader::{ReadFault, Reader, Unread, read, reader_of};
 use daq_run::set_up;
 use frame_writer::VecOut;
 use run_file::Run;
@@ -101,24 +101,41 @@ fn with_frames(
     run: &Run,
     unread: &mut Unread<'_>,
 ) -> Result<String, AllocError> {
+    let mut reader = reader_behind(alloc, run)?;
+    let mut lines = FrameLines::new(text, unread.counter());
+    let ended = read(&mut reader, unread, &mut lines);
+    let told = lines.counter();
+    let mut text = lines.into_text()?;
+    write_untold(&mut text, unread, told, ended)?;
+    Ok(text)
+}
+
+/// A reader of the DAQ lists that the set-up of a run makes ready.
+fn reader_behind(alloc: Global, run: &Run) -> Result<Reader, AllocError> {
     let Ok((store, _)) = set_up(alloc, run, VecOut::new(alloc)) else {
         return Err(AllocError);
     };
-    let mut reader = reader_of(alloc, &store)?;
-    let mut lines = FrameLines::new(text, unread.counter());
-    let ended = read(&mut reader, unread, &mut lines);
-    let counter = lines.counter();
-    let mut text = lines.into_text()?;
-    let more = unread.counter().wrapping_sub(counter);
+    reader_of(alloc, &store)
+}
+
+/// Writes which frames were read but told in no line, from the one with counter `told` on; and
+/// which bytes are behind them, if the frames end in a fault.
+fn write_untold(
+    text: &mut String,
+    unread: &Unread<'_>,
+    told: u16,
+    ended: Result<(), ReadFault>,
+) -> Result<(), AllocError> {
+    let more = unread.counter().wrapping_sub(told);
     if more > 0 {
         writeln!(
             text,
-            "frames {more} from {counter} on: of a sample that wasn't written whole"
+            "frames {more} from {told} on: of a sample that wasn't written whole"
         )?;
     }
-    if let Err(fault) = ended {
-        let left = unread.rest().len();
-        writeln!(text, "bytes {left} behind them: {fault}")?;
-    }
-    Ok(text)
+    let Err(fault) = ended else {
+        return Ok(());
+    };
+    let left = unread.rest().len();
+    writeln!(text, "bytes {left} behind them: {fault}")
 }
