@@ -27,7 +27,7 @@ pub fn is_file_key(word: &str) -> bool
 }
 
 /// The keys of a session file.
-const FILE_KEYS: [&str; 15] = [
+pub const FILE_KEYS: [&str; 15] = [
     "image_len",
     "id",
     "stamp_size",

@@ -24,7 +24,7 @@ mod words;
 pub use bad_key::BadKey;
 pub use file::SessionFile;
 pub use file_fault::FileFault;
-pub use keys::is_file_key;
+pub use keys::{FILE_KEYS, is_file_key};
 pub use line::Line;
 pub use parts::{PartLine, Parts};
 pub use play_fault::PlayFault;

@@ -1,28 +1,9 @@
 //! Why a text is no session.
 use crate::expected::{key_of, write_expected};
 use explain::{line_of_key, near_key, write_place, write_string, write_value};
-use session_file::{BadKey, FileFault, is_file_key};
+use session_file::{BadKey, FILE_KEYS, FileFault, is_file_key};
 use std::alloc::{AllocError, Global};
 use toml::Table;
-
-/// The keys of a session file.
-const KEYS: [&str; 15] = [
-    "image_len",
-    "id",
-    "stamp_size",
-    "unit",
-    "ticks",
-    "max_cto",
-    "max_dto",
-    "base",
-    "name",
-    "a2l_name",
-    "epk",
-    "a2l",
-    "segments",
-    "events",
-    "script",
-];
 
 /// What an item of `segments` should be.
 const SEGMENT: &str = "expected: a table with len, an integer of 0 or more, and at will extension, \
@@ -122,7 +103,11 @@ fn write_unknown(
         if !is_file_key(key) {
             write_place(why, name, line_of_key(text, key))?;
             writeln!(why, "{key} is no key of a session file")?;
-            return writeln!(why, "the nearest key is {}", near_key(alloc, key, &KEYS)?);
+            return writeln!(
+                why,
+                "the nearest key is {}",
+                near_key(alloc, key, &FILE_KEYS)?
+            );
         }
     }
     Ok(())
