@@ -71,7 +71,7 @@ impl<R: Ring> Lending<R> {
         Ok(Lending::over(samplers, ways, ends))
     }
 
-    /// Of samplers that weren't handed out, with room for a way of each, and for what is left of it.
+    /// Of samplers that weren't handed out, with room for a way of each and what is left of it.
     fn over(
         mut samplers: Vec<Sampler<R::Send>>,
         ways: Vec<EngineWay<R::Send>>,
