@@ -1,9 +1,10 @@
 -- The samplers that an engine was opened with, and what is left of those that came back.
-use Rattle.std.proofs.Common.{◌≡◌, ℕ, zero, suc, ◌+◌, ◌<◌, List, [], ◌∷◌, ◌++◌, length, map, refl, sym, ap, subst, ◌∙◌, arith, Some}
+use Rattle.std.proofs.Common.{◌≡◌, ℕ, zero, suc, ◌+◌, ◌-◌, ◌<◌, List, [], ◌∷◌, ◌++◌, length, map, refl, sym, ap, subst, ◌∙◌, arith, Some}
 use Rattle.std.proofs.Common.{slice_index_or, slice_set}
-use Rattle.std.specs.Prelude.{remove, slice_get}
+use Rattle.std.specs.Prelude.{remove, reverse, slice_get, take}
 use mathlib.Core.List.{IsPrefix}
-use Rattle.std.proofs.lemmas.List.{append_assoc, append-nil, map-append}
+use lib.Seq.{take-append_seam}
+use Rattle.std.proofs.lemmas.List.{append_assoc, append-nil, length-append, map-append, reverse-append}
 use Rattle.channel_ring.specs.declared.ends.SendEnd.{Ghosts as SendGhosts}
 use Rattle.channel_ring.specs.declared.ends.RingEnd.{Ghosts as EndGhosts}
 use Rattle.sampler.specs.History.{Opening}
@@ -12,7 +13,8 @@ use Rattle.sampler.specs.Standing.{EndStandsAfter, StandsAfter}
 use Rattle.sampler.specs.State.{JoinedEnd, SamplerEndState, SamplerState, joined}
 use Rattle.daq_engine.specs.Configuration.{upto}
 use Rattle.daq_engine.specs.Standings.{StandInOrder}
-use Rattle.c_engine.specs.Lendings.{HaveComeOf, rings_in}
+use Rattle.c_engine.specs.Lendings.{HaveComeOf, LendingState, rings_in}
+use Rattle.c_engine.specs.Lends.{Lends}
 use Rattle.c_engine.specs.Ways.{GoesOnFrom, IsEndOf}
 use Rattle.c_engine.proofs.WayLemmas.{goes-on-here}
 pub use Rattle.frame_writer.specs.contracts.sink_out.SinkOutOut.TheImpl.{ghosts as out}
@@ -35,6 +37,43 @@ prefix-then xs ys zs before after =
 
 pub prefix-map : {A B : Type 0} (f : A → B) (xs ys : List A) → IsPrefix xs ys → IsPrefix (map f xs) (map f ys)
 prefix-map f xs ys before = (map f before.0, sym (map-append f xs before.0) ∙ ap (map f) before.1)
+
+module _ {A : Type 0} where
+  -- the last one that went out is there
+  pub some-out : (had before : List A) (x : A) → had ≡ before ++ x ∷ [] → 0 < length had
+  some-out had before x is = omega (arith, ap length is, length-append before (x ∷ []))
+
+  -- but for the last one, those that went out are those before
+  pub last-gone : (had rest before : List A) (x : A) (n : ℕ) → n ≡ length had → had ≡ before ++ x ∷ [] → rest ≡ take (n - 1) had → rest ≡ before
+  last-gone had rest before x n many is gone =
+      let len : n - 1 ≡ length before = omega (arith, many, ap length is, length-append before (x ∷ [])) in
+      gone ∙ ap (λ k. take k had) len ∙ ap (take (length before)) is ∙ take-append_seam before (x ∷ [])
+
+  -- the last one that went out is the first that didn't
+  pub back-again : (had rest before s new : List A) (x y : A) → had ≡ before ++ x ∷ [] → rest ≡ before → y ≡ x → new ≡ s ++ y ∷ [] → had ++ reverse s ≡ rest ++ reverse new
+  back-again had rest before s new x y is gone same more =
+      ap (λ xs. xs ++ reverse s) is
+      ∙ append_assoc before (x ∷ []) (reverse s)
+      ∙ ap (λ z. before ++ z ∷ reverse s) (sym same)
+      ∙ ap (λ xs. before ++ xs) (sym (ap reverse more ∙ reverse-append s (y ∷ [])))
+      ∙ ap (λ xs. xs ++ reverse new) (sym gone)
+
+module _ {S E : Type 0} where
+  -- so all is as before
+  pub as-before : (began had rest s new : List (SamplerState S)) (ends : List (SamplerEndState E)) (x y : SamplerState S) (before now : LendingState S E)
+      → record { began = began; out = had; samplers = reverse s; ends = ends } ≡ now → Lends before now x → rest ≡ before.out → y ≡ x → new ≡ s ++ y ∷ []
+      → record { began = began; out = rest; samplers = reverse new; ends = ends } ≡ before
+  as-before began had rest s new ends x y before now is lends gone same more =
+      let samplers : reverse new ≡ before.samplers
+      = ap reverse more ∙ reverse-append s (y ∷ []) ∙ ap (λ z. z ∷ reverse s) same ∙ ap (λ (l : LendingState S E). x ∷ l.samplers) is ∙ sym lends.first in
+      let all = ap (λ (l : LendingState S E). l.began) is ∙ lends.began in
+      let left = ap (λ (l : LendingState S E). l.ends) is ∙ lends.ends in
+      λ i. record { began = all i; out = gone i; samplers = samplers i; ends = left i }
+
+-- the first one goes, which says what it did
+pub first-goes : {A : Type 0} (xs : List A) (x y : A) → 0 < length xs → y ≡ x → x ≡ slice_index_or xs 0 x → xs ≡ x ∷ remove (slice_set xs 0 y) 0
+first-goes [] x y some same first = absurd (omega (arith, some))
+first-goes (z ∷ xs) x y some same first = ap (λ w. w ∷ xs) (sym first)
 
 module _ {S E : Type 0} (send : SendGhosts S E) (ring : EndGhosts E) where
   abbrev Ended : Type 0
@@ -62,6 +101,12 @@ module _ {S E : Type 0} (send : SendGhosts S E) (ring : EndGhosts E) where
       → HaveComeOf send ring began ends a → HaveComeOf send ring began ends b
   rest-same began ends same h = subst (λ (xs : List (SamplerState S)). HaveComeOf send ring began ends xs) same h
 
+  -- none came back, and none is out
+  pub none-came : (began : List (SamplerState S)) (ends : List Ended) (had rest : List (SamplerState S)) → ends ≡ [] → had ≡ [] → began ≡ rest
+      → HaveComeOf send ring began ends (had ++ rest)
+  none-came began ends had rest none out_is is =
+      subst (λ (es : List Ended). HaveCome began es (had ++ rest)) (sym none) (is ∙ ap (λ (xs : List (SamplerState S)). xs ++ rest) (sym out_is))
+
   -- one more came back
   one-more : (began : List (SamplerState S)) (ends : List Ended) (e : Ended) (w : SamplerState S) (rest : List (SamplerState S))
       → HaveCome began ends (w ∷ rest) → IsEndOf send ring w e → HaveCome began (ends ++ e ∷ []) rest
@@ -70,13 +115,12 @@ module _ {S E : Type 0} (send : SendGhosts S E) (ring : EndGhosts E) where
   one-more [] (x ∷ ends) e w rest h is = absurd h
   one-more (s ∷ began) (x ∷ ends) e w rest h is = (h.0, one-more began ends e w rest h.1 is)
 
-  -- that of the first way, which is still the way of its sampler
-  pub came : (began : List (SamplerState S)) (ends : List Ended) (e : Ended) (out : List (SamplerState S)) (v w : SamplerState S)
-      (rest : List (SamplerState S)) → 0 < length out → w ≡ v → v ≡ slice_index_or out 0 v → IsEndOf send ring v e
-      → HaveComeOf send ring began ends (out ++ rest) → HaveComeOf send ring began (ends ++ e ∷ []) (remove (slice_set out 0 w) 0 ++ rest)
-  came began ends e [] v w rest some same first is h = absurd (omega (arith, some))
-  came began ends e (x ∷ xs) v w rest some same first is h =
-      one-more began ends e x (xs ++ rest) h (subst (λ (u : SamplerState S). IsEndOf send ring u e) first is)
+  -- that of the first of those that were out
+  pub came : (began : List (SamplerState S)) (ends : List Ended) (e : Ended) (w : SamplerState S) (had later rest : List (SamplerState S))
+      → had ≡ w ∷ later → IsEndOf send ring w e → HaveComeOf send ring began ends (had ++ rest)
+      → HaveComeOf send ring began (ends ++ e ∷ []) (later ++ rest)
+  came began ends e w had later rest first is h =
+      one-more began ends e w (later ++ rest) (subst (λ (xs : List (SamplerState S)). HaveCome began ends (xs ++ rest)) first h) is
 
   -- ends that say the same are as good
   pub ends-stay : (began : List (SamplerState S)) (old new : List Ended) (rest : List (SamplerState S))

@@ -1,10 +1,14 @@
 //! The samplers of an engine: handed out one by one, and collected once they are finished.
+ghost use Rattle.std.specs.Prelude.{◌≡◌, ◌+◌, ◌<◌, [], ◌∷◌, IfOk, IfSome, IsNone};
+ghost use Rattle.std.specs.Prelude.{length, option_to_list, vec_capacity, vec_len};
+ghost use Rattle.sampler.specs.State.{SamplerState};
+ghost use Rattle.c_engine.specs.Ways.{IsEndOf};
+
 use crate::lent::Lent;
-use crate::rule::{EngineWay, LaterPast};
+use crate::rule::{EngineWay, Left};
 use channel_ring::{SendEnd, TakeEnd};
 use daq_engine::Ring;
 use frame_writer::SinkOut;
-use hand_over::hand_over;
 use sampler::{Sampler, SamplerEnd};
 use std::alloc::{AllocError, Global};
 use std::marker::Model;
@@ -63,17 +67,35 @@ impl<R: Ring> Lending<R> {
           ends = [];
         }) }
     {
+        let (ways, ends) = two_with_room(alloc, samplers.len())?;
+        Ok(Lending::over(samplers, ways, ends))
+    }
+
+    /// Of samplers that weren't handed out, with room for a way of each and what is left of it.
+    fn over(
+        mut samplers: Vec<Sampler<R::Send>>,
+        ways: Vec<EngineWay<R::Send>>,
+        ends: Vec<Left<R::Send>>,
+    ) -> Lending<R>
+        requires ways { (ways.items ≡ []) × (vec_len ways ≡ 0)
+            × (vec_capacity ways ≡ vec_len samplers) }
+        requires ends { (ends.items ≡ []) × (vec_len ends ≡ 0)
+            × (vec_capacity ends ≡ vec_len samplers) }
+        ensures { result ≡ record {
+          began = samplers.items;
+          out = [];
+          samplers = samplers.items;
+          ends = [];
+        } }
+    {
         let began = Snapshot::of(&samplers);
-        let ways = Vec::with_capacity(alloc, samplers.len())?;
-        let ends = Vec::with_capacity(alloc, samplers.len())?;
-        let mut samplers = samplers;
         samplers.as_mut_slice().reverse();
-        Ok(Lending {
+        Lending {
             samplers,
             ways,
             ends,
             began,
-        })
+        }
     }
 
     /// Hands the first sampler out, where there is one.
@@ -85,10 +107,10 @@ impl<R: Ring> Lending<R> {
         let Some(sampler) = self.samplers.pop() else {
             return Ok(None);
         };
-        match hand_over::<_, _, LaterPast>(alloc, sampler) {
-            Ok((sampler, way, coming)) => {
+        match Lent::going(alloc, sampler) {
+            Ok((lent, coming)) => {
                 self.ways.push_reserved(coming);
-                Ok(Some(Lent { sampler, way }))
+                Ok(Some(lent))
             }
             Err(sampler) => {
                 self.samplers.push_reserved(sampler);
@@ -104,11 +126,8 @@ impl<R: Ring> Lending<R> {
         ensures { (before : LendingOf R.Send R.Send.End) →
             Lends before self.old lent → self.new ≡ before }
     {
-        let Lent { sampler, way: _ } = lent;
-        let Some(_way) = self.ways.pop() else {
-            return;
-        };
-        self.samplers.push_reserved(sampler);
+        let _ = self.ways.pop();
+        self.samplers.push_reserved(lent.into_sampler());
     }
 
     /// Collects what came back, and tells whether nothing is out any more. What came back before
@@ -120,10 +139,9 @@ impl<R: Ring> Lending<R> {
         ensures all { result ≡ true → AreBack R.Send.SendEnd R.Send.End.RingEnd self.new }
     {
         while !self.ways.is_empty() {
-            let Some(end) = self.ways[0].take() else {
+            let Some(end) = first_end(&mut self.ways) else {
                 return false;
             };
-            let _ = self.ways.remove(0);
             self.ends.push_reserved(end);
         }
         self.samplers.is_empty()
@@ -147,4 +165,34 @@ impl<R: Ring> Lending<R> {
     {
         transmitter.after(self.ends.as_mut_slice())
     }
+}
+
+/// Two empty vectors, with room for so many elements each.
+fn two_with_room<A: Drop, B: Drop>(
+    alloc: Global,
+    capacity: usize,
+) -> Result<(Vec<A>, Vec<B>), AllocError>
+    ensures first { IfOk result (λ it. (it.0.items ≡ []) × (vec_len it.0 ≡ 0)
+        × (vec_capacity it.0 ≡ capacity)) }
+    ensures second { IfOk result (λ it. (it.1.items ≡ []) × (vec_len it.1 ≡ 0)
+        × (vec_capacity it.1 ≡ capacity)) }
+{
+    let first = Vec::with_capacity(alloc, capacity)?;
+    let second = Vec::with_capacity(alloc, capacity)?;
+    Ok((first, second))
+}
+
+/// What came back on the first of these ways, which then goes.
+fn first_end<S: SendEnd>(ways: &mut Vec<EngineWay<S>>) -> Option<Left<S>>
+    requires some { 0 < vec_len ways.old }
+    ensures first { IfSome result (λ end. (sampler : SamplerState S)
+        × (ways.old.items ≡ sampler ∷ ways.new.items)
+        × IsEndOf S.SendEnd S.End.RingEnd sampler end) }
+    ensures len { vec_len ways.new + length (option_to_list result) ≡ vec_len ways.old }
+    ensures none { IsNone result → ways.new.items ≡ ways.old.items }
+    ensures capacity { vec_capacity ways.new ≡ vec_capacity ways.old }
+{
+    let end = ways[0].take()?;
+    let _ = ways.remove(0);
+    Some(end)
 }

@@ -1,10 +1,12 @@
 //! A sampler that was handed to C: its calls, each with a status.
 use crate::counts_out::CountsOut;
-use crate::rule::{GivenSampler, SamplerWay};
+use crate::rule::{EngineWay, GivenSampler, LaterPast, SamplerWay};
 use crate::status::Status;
 use crate::taken_out::TakenOut;
 use daq_engine::Ring;
+use hand_over::hand_over;
 use sampler::{Sampler, StartFault, StopFault, TriggerFault};
+use std::alloc::Global;
 use std::marker::Model;
 
 /// A sampler that was handed out, and its way back to its engine.
@@ -29,6 +31,29 @@ impl<R: Ring> Lent<R> {
     ghost use Rattle.std.specs.Prelude.{◌≡◌, IfErr, IfOk};
     ghost use Rattle.c_engine.specs.Samplers.{CountsList, IsLeftOf, StartsList, StopsList};
     ghost use Rattle.c_engine.specs.Samplers.{TriggersSampler};
+
+    /// A sampler that goes out, and the end of its way back that its engine keeps; or the sampler
+    /// itself, if there is no memory.
+    pub(crate) fn going(
+        alloc: Global,
+        sampler: Sampler<R::Send>,
+    ) -> Result<(Lent<R>, EngineWay<R::Send>), Sampler<R::Send>>
+        ensures lent { IfOk result (λ going. going.0 ≡ sampler) }
+        ensures way { IfOk result (λ going. going.1 ≡ sampler) }
+        ensures back { IfErr result (λ back. back ≡ sampler) }
+    {
+        match hand_over::<_, _, LaterPast>(alloc, sampler) {
+            Ok((sampler, way, coming)) => Ok((Lent { sampler, way }, coming)),
+            Err(sampler) => Err(sampler),
+        }
+    }
+
+    /// The sampler, whose way back isn't taken any more.
+    pub(crate) fn into_sampler(self) -> Sampler<R::Send>
+        ensures { result ≡ self }
+    {
+        self.sampler
+    }
 
     /// Takes a trigger.
     pub fn trigger(&mut self, image: &[u8], stamp: u32, taken: &mut TakenOut) -> Status

@@ -61,6 +61,49 @@ module _ {T L : Type 0} where
     many = line.many;
   }
 
+  -- nothing went yet but a pass of the place, which came out at once
+  came-out : (had known parcels : List (Parcel T L)) (x y : Parcel T L) (rest : List (Parcel T L))
+      → had ≡ [] → had ++ known ≡ parcels → parcels ≡ x ∷ [] → known ≡ y ∷ rest
+      → y ∷ rest ≡ x ∷ []
+  came-out had known parcels x y rest none all one first =
+      sym first ∙ ap (λ xs. xs ++ known) (sym none) ∙ all ∙ one
+
+  pub begun : (had known parcels : List (Parcel T L)) (x y : Parcel T L) (rest now : List (Parcel T L))
+      → had ≡ [] → had ++ known ≡ parcels → parcels ≡ x ∷ [] → known ≡ y ∷ rest
+      → now ≡ had ++ y ∷ [] → now ≡ x ∷ []
+  begun had known parcels x y rest now none all one first is =
+      let same : y ∷ rest ≡ x ∷ [] = came-out had known parcels x y rest none all one first in
+      let it : y ≡ x = cc in
+      is ∙ ap (λ xs. xs ++ y ∷ []) none ∙ ap (λ z. z ∷ []) it
+
+  begins-line : (p shown : Pass T (Known T)) (parcels : List (Parcel T L))
+      → parcels ≡ Begun shown ∷ [] → shown.table_id ≡ p.table_id → IsLine p parcels
+  begins-line p shown parcels only same =
+      record { first = shown; backs = []; begins = only; one_place = same; many = refl }
+
+  pub lender-begins : (p shown : Pass T (Known T)) (received : List (Parcel T L))
+      → view p ≡ known true false [] [] → received ≡ Begun shown ∷ []
+      → shown.table_id ≡ p.table_id → IsLender p received
+  lender-begins p shown received is only same = record {
+    line = begins-line p shown received only same;
+    lends = ap (λ (v : Known T). v.lends) is;
+    fetches_not = ap (λ (v : Known T). v.fetches) is;
+    seen = subst (λ (v : Known T). IsPrefix v.fetched v.lent) (sym is) ([], refl);
+    many = ap (λ (v : Known T). length v.fetched) is
+        ∙ sym (ap (λ xs. length (lefts xs)) only);
+  }
+
+  pub borrower-begins : (p shown : Pass T (Known T)) (sent : List (Parcel T L)) (free : ℕ)
+      → view p ≡ known false true [] [] → sent ≡ Begun shown ∷ []
+      → shown.table_id ≡ p.table_id → IsBorrower p sent free
+  borrower-begins p shown sent free is only same = record {
+    line = begins-line p shown sent only same;
+    lends_not = ap (λ (v : Known T). v.lends) is;
+    fetches = ap (λ (v : Known T). v.fetches) is;
+    held = inl (ap (λ (v : Known T). length v.fetched) is
+        ∙ sym (ap (λ xs. length (lefts xs)) only));
+  }
+
   longer : (p : Pass T (Known T)) (parcels : List (Parcel T L)) (left : L) (shown : Pass T (Known T))
       → IsLine p parcels → IsLine p (parcels ++ Back left shown ∷ [])
   longer p parcels left shown line = record {

@@ -1,4 +1,4 @@
-use Rattle.std.proofs.Common.{◌<◌, [], ◌∷◌, ap, arith, length, reverse}
+use Rattle.std.proofs.Common.{[], ◌∷◌, ap, arith, reverse}
 use Rattle.std.proofs.lemmas.Grind.{common_steps}
 use Rattle.c_engine.specs.Lendings.{LendingState}
 use Rattle.c_engine.proofs.LendingLemmas.{came, prefix-more, prefix-same}
@@ -19,8 +19,7 @@ loop-self-init g c = record {
 -- what came back is left of the first that was out
 pub loop-self-preserved : goal.loop-self-preserved
 loop-self-preserved g c =
-    let out = c.loop-self.self-inside.ways.items in
-    let some : 0 < length out = grind (arith, common_steps) in
+    let first = c.in-Some.ensures.first in
     record {
       began = c.loop-self.invariant.began;
       samplers = c.loop-self.invariant.samplers;
@@ -28,8 +27,8 @@ loop-self-preserved g c =
       samplers_fit = grind (arith, common_steps);
       ways_fit = grind (arith, common_steps);
       ends_fit = grind (arith, common_steps);
-      come = rw (c.remove.ensures.items, c.push_reserved.ensures.items)
+      come = rw c.push_reserved.ensures.items
           (came g.R.Send.SendEnd g.R.Send.End.RingEnd c.loop-self.self-inside.began.value.items c.loop-self.self-inside.ends.items c.in-Some.end
-          out c.index_mut.result.now c.take.new.self (reverse c.loop-self.self-inside.samplers.items) some c.take.ensures.stays c.index_mut.ensures.value
-          c.in-Some.ensures.left c.loop-self.invariant.come);
+          first.0 c.loop-self.self-inside.ways.items c.first_end.new.ways.items (reverse c.loop-self.self-inside.samplers.items) first.1 first.2
+          c.loop-self.invariant.come);
     }
