@@ -124,11 +124,21 @@ fn a_discarded_sample_counts_nowhere(
     Ok(())
 }
 
+/// Two samples and a reply go through a page, and a third sample behind one that is discarded.
+fn samples_go_through(
+    rt: &impl Abort,
+    sampler: &mut Sampler<FrameSend>,
+    take: &mut FrameTake,
+    page: &mut FramePage<u8>,
+) -> Result<(), Fail> {
+    a_page_fills(rt, sampler, take, page)?;
+    frames_go_in_two(rt, page);
+    a_discarded_sample_counts_nowhere(rt, sampler, take, page)
+}
+
 #[test]
 fn a_sample_goes_out_in_several_datagrams(rt: HostRuntime) -> Result<(), Fail> {
-    let (mut sampler, mut take) = sampled_frames(rt.alloc())?;
     let mut page = FramePage::new(rt.alloc(), 10, 3)?;
-    a_page_fills(&rt, &mut sampler, &mut take, &mut page)?;
-    frames_go_in_two(&rt, &mut page);
-    a_discarded_sample_counts_nowhere(&rt, &mut sampler, &mut take, &mut page)
+    let (mut sampler, mut take) = sampled_frames(rt.alloc())?;
+    samples_go_through(&rt, &mut sampler, &mut take, &mut page)
 }

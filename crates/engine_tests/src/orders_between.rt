@@ -4,6 +4,7 @@ ghost use Rattle.transmitter.specs.Written.{transmission};
 
 use crate::same::same;
 use crate::stores::one_list;
+use crate::wrong_ends::closed;
 use byte_ring::ByteRing;
 use channel_ring::{
     ControlEnded, ControlRing, ControlSend, ControlTake, ItemTake, Order, RingEnd, SampleRing,
@@ -133,10 +134,8 @@ fn close_one<T: ItemTake>(
     let mut ends = Vec::new(alloc);
     ends.push(end)?;
     transmitter.drain(ends.as_mut_slice())?;
-    match close(alloc, transmitter, ends) {
-        Ok((report, _out)) => Ok(report),
-        Err((fault, _, _)) => Err(Fail::from(fault)),
-    }
+    let (report, _out) = closed(close(alloc, transmitter, ends))?;
+    Ok(report)
 }
 
 /// The orders that were answered, and behind them those that are left.
@@ -173,9 +172,25 @@ fn account_adds_up<T: ItemTake>(
     Ok(())
 }
 
-/// Drains and closes, and compares the orders that were answered and left with those that were
-/// sent, and the account with itself. The first order is sent before the sampler's first look, so
-/// some are answered, however the threads run.
+/// Compares the orders that were answered and left with those that were sent. The first order is
+/// sent before the sampler's first look, so some are answered, however the threads run.
+fn orders_are(
+    rt: &impl Abort,
+    answering: (ControlTake, Vec<Order>),
+    ended: ControlEnded,
+    sent: &[Order],
+    row: &str,
+)
+    requires one_ring { ended.ring ≡ answering.0.ring }
+{
+    let (take, answered) = answering;
+    let is_empty = answered.is_empty();
+    same(rt, is_empty, false, row, "whether none is answered");
+    let orders = with_left(take, ended, answered);
+    same(rt, orders.as_slice(), sent, row, "the orders");
+}
+
+/// Compares the orders, then drains and closes, and compares the account with itself.
 fn settle<T: ItemTake>(
     rt: &impl Abort,
     alloc: Global,
@@ -189,16 +204,21 @@ fn settle<T: ItemTake>(
 {
     let (end, take, answered) = sampled;
     let (ended, transmitter, sent) = ordered;
-    let is_empty = answered.is_empty();
-    same(rt, is_empty, false, row, "whether none is answered");
-    account_adds_up(rt, alloc, transmitter, end, row)?;
-    let orders = with_left(take, ended, answered);
-    same(rt, orders.as_slice(), sent.as_slice(), row, "the orders");
-    Ok(())
+    orders_are(rt, (take, answered), ended, sent.as_slice(), row);
+    account_adds_up(rt, alloc, transmitter, end, row)
+}
+
+/// The orders that were sent and those that were answered: the first one and none, each with room
+/// for all that follow.
+fn rooms(alloc: Global, first: Order) -> Result<(Vec<Order>, Vec<Order>), Fail> {
+    let answered = Vec::with_capacity(alloc, TRIES)?;
+    let mut sent = Vec::with_capacity(alloc, TRIES)?;
+    sent.push(first)?;
+    Ok((sent, answered))
 }
 
 /// A control ring of four places in which a stop waits: its send end with the orders that were
-/// sent, and its take end with those that were answered, each with room for all that follow.
+/// sent, and its take end with those that were answered.
 fn first_order(
     rt: &impl Abort,
     alloc: Global,
@@ -206,12 +226,10 @@ fn first_order(
 ) -> Result<((ControlSend, Vec<Order>), (ControlTake, Vec<Order>)), Fail>
     ensures { IfOk result (λ r. r.0.0.ring ≡ r.1.0.ring) }
 {
-    let (mut send, take) = ControlRing::new(alloc, 4)?;
-    let answered = Vec::with_capacity(alloc, TRIES)?;
-    let mut sent = Vec::with_capacity(alloc, TRIES)?;
     let stop = Order::Stop(0);
+    let (sent, answered) = rooms(alloc, stop)?;
+    let (mut send, take) = ControlRing::new(alloc, 4)?;
     same(rt, send.send(stop), Ok(()), row, "the first order");
-    sent.push(stop)?;
     Ok(((send, sent), (take, answered)))
 }
 

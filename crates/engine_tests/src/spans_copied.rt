@@ -2,6 +2,7 @@
 ghost use Rattle.std.specs.Prelude.{◌≡◌, ◌*◌, ◌≤◌, All, length, true};
 ghost use Rattle.xcp_base.specs.Copied.{IsSpanAt};
 
+use crate::same::same;
 use std::process::Abort;
 use std::test::Fail;
 use xcp_base::{MemoryView, Stretch, put_copied};
@@ -113,32 +114,34 @@ fn copied(offsets: &[u32], size: usize) -> Result<(usize, [u8; 48]), Fail> {
     Ok((end, cells))
 }
 
-/// Compares the bytes, and where they end.
+/// Compares what spans copy, and where it ends.
 fn copies(
     rt: &impl Abort,
+    row: &str,
     offsets: &[u32],
     size: usize,
     end: usize,
     bytes: [u8; 48],
 ) -> Result<(), Fail> {
-    let count = offsets.len();
-    assert_eq!(rt;
-        copied(offsets, size)?,
-        (end, bytes),
-        "{count} spans of {size} bytes"
-    );
+    let shown = copied(offsets, size)?;
+    same(rt, shown, (end, bytes), row, "end, bytes");
     Ok(())
 }
 
 #[test]
 fn spans_are_copied_by_fours_and_the_rest_behind_them(rt: HostRuntime) -> Result<(), Fail> {
-    copies(&rt, &OF_FOUR[..1], 4, 6, ONE_OF_FOUR)?;
-    copies(&rt, &OF_FOUR[..3], 4, 14, THREE_OF_FOUR)?;
-    copies(&rt, &OF_FOUR[..4], 4, 18, FOUR_OF_FOUR)?;
-    copies(&rt, &OF_FOUR[..5], 4, 22, FIVE_OF_FOUR)?;
-    copies(&rt, &OF_FOUR, 4, 38, NINE_OF_FOUR)?;
-    copies(&rt, &OF_ONE, 1, 7, FIVE_OF_ONE)?;
-    copies(&rt, &OF_TWO, 2, 14, SIX_OF_TWO)?;
-    copies(&rt, &OF_EIGHT, 8, 42, FIVE_OF_EIGHT)?;
+    let rows: [(&str, &[u32], usize, usize, [u8; 48]); 8] = [
+        ("1 of 4 bytes", &OF_FOUR[..1], 4, 6, ONE_OF_FOUR),
+        ("3 of 4 bytes", &OF_FOUR[..3], 4, 14, THREE_OF_FOUR),
+        ("4 of 4 bytes", &OF_FOUR[..4], 4, 18, FOUR_OF_FOUR),
+        ("5 of 4 bytes", &OF_FOUR[..5], 4, 22, FIVE_OF_FOUR),
+        ("9 of 4 bytes", &OF_FOUR, 4, 38, NINE_OF_FOUR),
+        ("5 of 1 byte", &OF_ONE, 1, 7, FIVE_OF_ONE),
+        ("6 of 2 bytes", &OF_TWO, 2, 14, SIX_OF_TWO),
+        ("5 of 8 bytes", &OF_EIGHT, 8, 42, FIVE_OF_EIGHT),
+    ];
+    for (row, offsets, size, end, bytes) in rows {
+        copies(&rt, row, offsets, size, end, bytes)?;
+    }
     Ok(())
 }

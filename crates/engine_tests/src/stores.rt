@@ -57,6 +57,14 @@ fn carry(store: &mut Store, packet: &[u8]) -> Result<(), Fail> {
     }
 }
 
+/// Carries command packets out, one behind another.
+fn carry_all(store: &mut Store, packets: &[&[u8]]) -> Result<(), Fail> {
+    for packet in packets {
+        carry(store, packet)?;
+    }
+    Ok(())
+}
+
 /// A store for which these packets were carried out.
 fn store_of(
     alloc: Global,
@@ -65,9 +73,7 @@ fn store_of(
     packets: &[&[u8]],
 ) -> Result<Store, Fail> {
     let mut store = Store::new(alloc, channels, image_len)?;
-    for packet in packets {
-        carry(&mut store, packet)?;
-    }
+    carry_all(&mut store, packets)?;
     Ok(store)
 }
 

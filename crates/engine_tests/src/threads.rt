@@ -4,5 +4,6 @@ mod calls;
 mod faults;
 mod in_order;
 mod one_by_one;
+mod outcomes;
 mod text;
 mod turns;

@@ -90,13 +90,24 @@ fn each_sample_of_a_whole_run_is_written(rt: HostRuntime) -> Result<(), Fail> {
     Ok(())
 }
 
+/// Whether an engine over rings of bytes opens.
+fn is_engine_open(alloc: Global, store: &Store, caps: &[usize]) -> bool {
+    let writer = FrameWriter::new(VecOut::new(alloc));
+    Engine::open_bytes(alloc, store, caps, writer).is_ok()
+}
+
+/// Whether the parts of one open.
+fn are_parts_open(alloc: Global, store: &Store, caps: &[usize]) -> bool {
+    let writer = FrameWriter::new(VecOut::new(alloc));
+    open_bytes(alloc, store, caps, writer).is_ok()
+}
+
 #[test]
 fn engines_open_over_rings_of_bytes(rt: HostRuntime) -> Result<(), Fail> {
     let store = two_lists(rt.alloc())?;
     let caps = [532, 532];
-    let writer = || FrameWriter::new(VecOut::new(rt.alloc()));
-    let engine = Engine::open_bytes(rt.alloc(), &store, &caps, writer()).is_ok();
-    let parts = open_bytes(rt.alloc(), &store, &caps, writer()).is_ok();
+    let engine = is_engine_open(rt.alloc(), &store, &caps);
+    let parts = are_parts_open(rt.alloc(), &store, &caps);
     same(&rt, (engine, parts), (true, true), "532 bytes", "opened");
     Ok(())
 }

@@ -1,5 +1,5 @@
 //! Ends that aren't those of an engine come back, and those that are close it.
-ghost use Rattle.std.specs.Prelude.{◌≡◌, IfOk, map, true};
+ghost use Rattle.std.specs.Prelude.{◌≡◌, Err, IfOk, map, true};
 ghost use Rattle.transmitter.specs.Looks.{AreOfRings};
 ghost use Rattle.transmitter.specs.Written.{transmission};
 ghost use Rattle.daq_engine.specs.Configuration.{upto};
@@ -8,7 +8,7 @@ use crate::same::same;
 use crate::stores::two_lists;
 use byte_ring::ByteRing;
 use channel_ring::{Beside, ItemTake, RingEnd, SampleRing, SendEnd, TakeEnd};
-use daq_engine::{CloseFault, Engine, ListReport, Ring, close, engine_over, finish_all};
+use daq_engine::{CloseFault, Engine, ListReport, Report, Ring, close, engine_over, finish_all};
 use frame_writer::{FrameWriter, Out, VecOut};
 use sampler::SamplerEnd;
 use std::alloc::Global;
@@ -27,15 +27,20 @@ const NONE: u8 = 0xFF;
 /// The frames of the first trigger of each event channel.
 const TWO_FRAMES: [u8; 14] = [3, 0, 0, 0, 0, 7, 8, 3, 0, 1, 0, 1, 9, 10];
 
-/// An engine of two event channels, each of which was triggered and pumped; then the first was
-/// triggered once more.
-fn triggered<K: Ring>(alloc: Global, cap: usize) -> Result<Engine<VecOut<Global>, K::Take>, Fail> {
+/// An engine of two event channels, whose rings have `cap` units each.
+fn opened<K: Ring>(alloc: Global, cap: usize) -> Result<Engine<VecOut<Global>, K::Take>, Fail> {
     let store = two_lists(alloc)?;
     let writer = FrameWriter::new(VecOut::new(alloc));
-    let opened = engine_over::<K, VecOut<Global>>(alloc, &store, &[cap, cap], writer);
-    let Ok(mut engine) = opened else {
-        return Err(Fail::from("an engine that isn't opened"));
-    };
+    match engine_over::<K, VecOut<Global>>(alloc, &store, &[cap, cap], writer) {
+        Ok(engine) => Ok(engine),
+        Err(_) => Err(Fail::from("an engine that isn't opened")),
+    }
+}
+
+/// Such an engine, each event channel of which was triggered and pumped; then the first was
+/// triggered once more.
+fn triggered<K: Ring>(alloc: Global, cap: usize) -> Result<Engine<VecOut<Global>, K::Take>, Fail> {
+    let mut engine = opened::<K>(alloc, cap)?;
     trigger_and_pump(&mut engine)?;
     Ok(engine)
 }
@@ -96,6 +101,24 @@ fn may_fit<E>(ends: &[SamplerEnd<E>], rings: usize) -> bool
     ends[0].channel() == 0
 }
 
+/// What a close answers that isn't refused.
+pub fn closed<R, T: Drop, E: Drop>(answer: Result<R, (CloseFault, T, E)>) -> Result<R, Fail> {
+    match answer {
+        Ok(closed) => Ok(closed),
+        Err((fault, _, _)) => Err(Fail::from(fault)),
+    }
+}
+
+/// What a close answers that is refused: the fault, and what comes back.
+fn refusal<R: Drop, B>(answer: Result<R, B>) -> Result<B, Fail>
+    ensures { IfOk result (λ back. answer ≡ Err back) }
+{
+    match answer {
+        Ok(_) => Err(Fail::from("closed")),
+        Err(back) => Ok(back),
+    }
+}
+
 /// Hands ends to `close` that don't fit: compares the fault and the ends that come back.
 fn refused<T: ItemTake>(
     rt: &impl Abort,
@@ -110,20 +133,26 @@ fn refused<T: ItemTake>(
     if may_fit(ends.as_slice(), transmitter.rings()) {
         return Err(Fail::from("ends that may fit"));
     }
-    match close(alloc, transmitter, ends) {
-        Ok(_) => Err(Fail::from("closed")),
-        Err((fault, transmitter, ends)) => {
-            let shown = (fault, channels_of(ends.as_slice()));
-            same(
-                rt,
-                shown,
-                (CloseFault::WrongEnds, before),
-                row,
-                "fault, ends",
-            );
-            Ok((transmitter, ends))
-        }
-    }
+    let (fault, transmitter, ends) = refusal(close(alloc, transmitter, ends))?;
+    let shown = (fault, channels_of(ends.as_slice()));
+    let wanted = (CloseFault::WrongEnds, before);
+    same(rt, shown, wanted, row, "fault, ends");
+    Ok((transmitter, ends))
+}
+
+/// Compares the account of an engine of which a sample of each event channel was written, and one
+/// of the first is left.
+fn has_account(rt: &impl Abort, report: &Report, row: &str) {
+    let line = |list, due, left| ListReport {
+        list,
+        due,
+        written: 1,
+        dropped: 0,
+        left,
+    };
+    let lines = report.lists.as_slice();
+    same(rt, lines, &[line(0, 2, 1), line(1, 1, 0)], row, "account");
+    same(rt, report.failed, false, row, "whether the writer failed");
 }
 
 /// Closes an engine with its own ends: compares its account and its bytes.
@@ -137,20 +166,8 @@ fn closes<T: ItemTake>(
     requires rings { AreOfRings T.End.RingEnd
         (transmission ⟦<VecOut<Global> as Out>⟧ T.TakeEnd transmitter) ends.items }
 {
-    let (report, out) = match close(alloc, transmitter, ends) {
-        Ok(closed) => closed,
-        Err((fault, _, _)) => return Err(Fail::from(fault)),
-    };
-    let line = |list, due, left| ListReport {
-        list,
-        due,
-        written: 1,
-        dropped: 0,
-        left,
-    };
-    let lines = report.lists.as_slice();
-    same(rt, lines, &[line(0, 2, 1), line(1, 1, 0)], row, "account");
-    same(rt, report.failed, false, row, "whether the writer failed");
+    let (report, out) = closed(close(alloc, transmitter, ends))?;
+    has_account(rt, &report, row);
     same(rt, out.bytes(), &TWO_FRAMES, row, "bytes");
     Ok(())
 }
@@ -167,7 +184,9 @@ fn refuses_few<T: ItemTake>(
 {
     let (transmitter, _) = refused(rt, alloc, transmitter, Vec::new(alloc), row)?;
     let mut ends = ends;
-    let second = ends.pop().ok_or("no end")?;
+    let Some(second) = ends.pop() else {
+        return Err(Fail::from("no end"));
+    };
     let (transmitter, mut ends) = refused(rt, alloc, transmitter, ends, row)?;
     ends.push(second)?;
     Ok((transmitter, ends))
@@ -200,7 +219,9 @@ fn refuses_order<T: ItemTake>(
     ensures back { IfOk result (λ r. r ≡ transmitter) }
 {
     let mut ends = ends;
-    let third = ends.pop().ok_or("no end")?;
+    let Some(third) = ends.pop() else {
+        return Err(Fail::from("no end"));
+    };
     ends.as_mut_slice().reverse();
     let (transmitter, mut ends) = refused(rt, alloc, transmitter, ends, row)?;
     let _ = ends.pop();
@@ -211,7 +232,44 @@ fn refuses_order<T: ItemTake>(
 
 /// Hands an engine's `close` no end, one, three, two in falling order and two of one event channel,
 /// all of other engines.
-fn refuses_others<K: Ring>(
+fn refuses_others<T: ItemTake>(
+    rt: &impl Abort,
+    alloc: Global,
+    transmitter: Writing<T>,
+    ends: Vec<SamplerEnd<T::End>>,
+    third: SamplerEnd<T::End>,
+    row: &str,
+) -> Result<Writing<T>, Fail>
+    ensures back { IfOk result (λ r. r ≡ transmitter) }
+{
+    let (transmitter, ends) = refuses_few(rt, alloc, transmitter, ends, row)?;
+    let (transmitter, ends) = refuses_three(rt, alloc, transmitter, ends, third, row)?;
+    refuses_order(rt, alloc, transmitter, ends, row)
+}
+
+/// What is left of the samplers of another engine.
+fn other_ends<K: Ring>(
+    alloc: Global,
+    cap: usize,
+) -> Result<Vec<SamplerEnd<<K::Take as TakeEnd>::End>>, Fail> {
+    let (ends, _) = finished(alloc, triggered::<K>(alloc, cap)?)?;
+    Ok(ends)
+}
+
+/// The last of what is left of the samplers of another engine.
+fn last_other_end<K: Ring>(
+    alloc: Global,
+    cap: usize,
+) -> Result<SamplerEnd<<K::Take as TakeEnd>::End>, Fail> {
+    let mut ends = other_ends::<K>(alloc, cap)?;
+    match ends.pop() {
+        Some(end) => Ok(end),
+        None => Err(Fail::from("no end")),
+    }
+}
+
+/// Hands an engine's `close` ends of other engines.
+fn refuses_other_ends<K: Ring>(
     rt: &impl Abort,
     alloc: Global,
     cap: usize,
@@ -220,12 +278,9 @@ fn refuses_others<K: Ring>(
 ) -> Result<Writing<K::Take>, Fail>
     ensures back { IfOk result (λ r. r ≡ transmitter) }
 {
-    let (ends, _) = finished(alloc, triggered::<K>(alloc, cap)?)?;
-    let (mut more, _) = finished(alloc, triggered::<K>(alloc, cap)?)?;
-    let third = more.pop().ok_or("no end")?;
-    let (transmitter, ends) = refuses_few(rt, alloc, transmitter, ends, row)?;
-    let (transmitter, ends) = refuses_three(rt, alloc, transmitter, ends, third, row)?;
-    refuses_order(rt, alloc, transmitter, ends, row)
+    let third = last_other_end::<K>(alloc, cap)?;
+    let ends = other_ends::<K>(alloc, cap)?;
+    refuses_others(rt, alloc, transmitter, ends, third, row)
 }
 
 /// Hands an engine's `close` ends of other engines, then its own.
@@ -236,7 +291,7 @@ fn closes_with_its_own<K: Ring>(
     row: &str,
 ) -> Result<(), Fail> {
     let (own, transmitter) = finished(alloc, triggered::<K>(alloc, cap)?)?;
-    let transmitter = refuses_others::<K>(rt, alloc, cap, transmitter, row)?;
+    let transmitter = refuses_other_ends::<K>(rt, alloc, cap, transmitter, row)?;
     closes(rt, alloc, transmitter, own, row)
 }
 

@@ -1,9 +1,8 @@
 //! What a gate is told of pumps: the whole answer of each, once.
 use crate::same::same;
 use crate::threads::one_by_one::OneByOne;
+use crate::threads::outcomes::outcome_of;
 use crate::threads::text::{TWO_LISTS, TWO_PLACES, TWO_RINGS_OF_BYTES, run_of};
-use daq_run::run_threads;
-use frame_writer::VecOut;
 use std::alloc::Global;
 use std::process::Abort;
 use std::sync::Wait;
@@ -48,9 +47,7 @@ fn pumps_are_told<R: Threads + Wait + Sync + Abort>(
 ) -> Result<(), Fail> {
     let run = run_of(alloc, &[rings, TWO_LISTS, STEPS])?;
     let gate = OneByOne::of(&WANTED);
-    if let Err((fault, _)) = run_threads(rt, alloc, &run, VecOut::new(alloc), &gate) {
-        return Err(Fail::from(fault));
-    }
+    let _outcome = outcome_of(rt, alloc, &run, &gate)?;
     same(rt, gate.told(), (4, 0), rings, "told, otherwise");
     Ok(())
 }

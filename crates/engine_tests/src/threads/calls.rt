@@ -2,11 +2,11 @@
 //! order the gate is called, beside the steps and the pumps.
 use crate::same::same;
 use crate::threads::in_order::{InOrder, Wrong};
+use crate::threads::outcomes::outcome_of;
 use crate::threads::text::{
     BIG_LIST, ONE_BIG_PLACE, TWO_LISTS, TWO_PLACES, TWO_RINGS_OF_BYTES, ZEROS_31, ZEROS_32, run_of,
 };
-use daq_run::run_threads;
-use frame_writer::VecOut;
+use run_file::Run;
 use std::alloc::Global;
 use std::process::Abort;
 use std::sync::Wait;
@@ -88,23 +88,30 @@ fn frames_are(rt: &impl Abort, bytes: &[u8], row: Row<'_>) {
     same(rt, (behind.len(), front), wanted, row.name, "the frames");
 }
 
-/// Runs a row, and compares what its gate was told and what is written.
+/// Runs the run of a row, and compares what its gate was told and what is written.
+fn goes_in_order<R: Threads + Wait + Sync + Abort>(
+    rt: &R,
+    alloc: Global,
+    run: &Run,
+    row: Row<'_>,
+) -> Result<(), Fail> {
+    let gate = InOrder::of(rt, row.order, row.packets);
+    let outcome = outcome_of(rt, alloc, run, &gate)?;
+    let steps = row.order.len() as u64;
+    let told = (Wrong::Nothing, steps, steps);
+    same(rt, gate.told(), told, row.name, "the calls");
+    frames_are(rt, outcome.out.bytes(), row);
+    Ok(())
+}
+
+/// Reads the run of a row, which then goes in order.
 fn runs_in_order<R: Threads + Wait + Sync + Abort>(
     rt: &R,
     alloc: Global,
     row: Row<'_>,
 ) -> Result<(), Fail> {
     let run = run_of(alloc, row.parts)?;
-    let gate = InOrder::of(rt, row.order, row.packets);
-    let outcome = match run_threads(rt, alloc, &run, VecOut::new(alloc), &gate) {
-        Ok(outcome) => outcome,
-        Err((fault, _)) => return Err(Fail::from(fault)),
-    };
-    let steps = row.order.len() as u64;
-    let told = (Wrong::Nothing, steps, steps);
-    same(rt, gate.told(), told, row.name, "the calls");
-    frames_are(rt, outcome.out.bytes(), row);
-    Ok(())
+    goes_in_order(rt, alloc, &run, row)
 }
 
 #[test]

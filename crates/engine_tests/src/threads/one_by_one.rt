@@ -43,6 +43,19 @@ impl<'a> OneByOne<'a> {
         }
     }
 
+    /// Behind so many that were told, a pump is the one that is wanted next if its step was let go,
+    /// and takes nothing if not. Answers how many were told then.
+    fn tell(&self, told: u64, pumped: &Pumped, wanted: &Pumped) -> u64 {
+        if told >= self.going.load(Ordering::SeqCst) {
+            self.expect(pumped.taken == 0);
+            return told;
+        }
+        self.expect(pumped == wanted);
+        let told = told.saturating_add(1);
+        self.told.store(told, Ordering::SeqCst);
+        told
+    }
+
     /// Lets the next step go, and waits until it is answered.
     fn let_go(&self, next: u64) {
         self.going.store(next, Ordering::SeqCst);
@@ -65,18 +78,11 @@ impl Gate for OneByOne<'_> {
     }
 
     fn pumped(&self, pumped: &Pumped) {
-        let mut told = self.told.load(Ordering::SeqCst);
+        let told = self.told.load(Ordering::SeqCst);
         let Some(wanted) = self.wanted.get(told as usize) else {
             return;
         };
-        let going = self.going.load(Ordering::SeqCst);
-        if told < going {
-            self.expect(pumped == wanted);
-            told = told.saturating_add(1);
-            self.told.store(told, Ordering::SeqCst);
-        } else {
-            self.expect(pumped.taken == 0);
-        }
+        let told = self.tell(told, pumped, wanted);
         if pumped.taken == 0 && told < self.wanted.len() as u64 {
             self.let_go(told.saturating_add(1));
         }

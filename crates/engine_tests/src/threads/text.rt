@@ -43,9 +43,6 @@ pub const ZEROS_32: &str = "0000000000000000000000000000000000000000000000000000
 
 /// The run of some parts of a text, one behind another.
 pub fn run_of(alloc: Global, parts: &[&str]) -> Result<Run, Fail> {
-    let mut text = String::new(alloc);
-    for part in parts {
-        text.push_str(part)?;
-    }
+    let text = parts.concat(alloc)?;
     Ok(Run::read(alloc, &text)?)
 }
