@@ -1,5 +1,6 @@
 //! A whole run with a thread for each event channel.
-ghost use Rattle.std.specs.Prelude.{◌≡◌, ◌≤◌, All, IfErr, IfOk, IfSome, map, true};
+ghost use Rattle.std.specs.Prelude.{◌≡◌, ◌≤◌, ◌<◌, ◌+◌, ◌++◌, ◌∷◌, [], All, IfErr, IfOk, IfSome};
+ghost use Rattle.std.specs.Prelude.{OnOk, map, true};
 ghost use Rattle.std.specs.Prelude.{vec_capacity, vec_len};
 ghost use Rattle.xcp_base.specs.declared.limits.TheConstants.{RUN_CHANNELS};
 ghost use Rattle.std.specs.List.{list_all};
@@ -8,7 +9,7 @@ ghost use Rattle.run_file.specs.RunFile.{RunData};
 ghost use Rattle.run_file.specs.declared.limits.TheConstants.{MAX_STEPS};
 ghost use Rattle.transmitter.specs.Written.{transmission};
 ghost use Rattle.daq_run.specs.Steps.{run_step};
-ghost use Rattle.daq_run.specs.Inner.Workers.{HaveWorked, IsLeftAfterSteps};
+ghost use Rattle.daq_run.specs.Inner.Workers.{HaveWorked, IsLeftAfterSteps, IsOneMoreLeft};
 ghost use Rattle.daq_run.specs.Inner.Workers.{KeepsTaking, MayComeLate};
 ghost use Rattle.daq_run.specs.Runs.{cost_in};
 ghost use Rattle.daq_run.specs.Threads.{ThreadsComeTo, ThreadsStandAtFault};
@@ -203,10 +204,10 @@ where
     ensures late { IfErr result.0 MayComeLate }
     ensures meanwhile { M.gives meanwhile result.1 }
 {
-    let Ok((room, ends)) = room_for(alloc, samplers.len()) else {
+    let Ok((mut workers, ends)) = room_for(alloc, samplers.len()) else {
         return (Err(SimFault::Memory), meanwhile.run(0));
     };
-    let (workers, all) = start_all(scope, samplers, room, run, gate, ended);
+    let all = start_all(scope, samplers, &mut workers, run, gate, ended);
     let done = meanwhile.run(workers.len());
     let joined = join_all(rt, workers, ends);
     if !all {
@@ -233,30 +234,56 @@ fn room_for<'e, S: SendEnd>(
 fn start_all<'s, 'e, S: SendEnd + Send + 'e, G: Gate + Sync + 'e>(
     scope: &'s Scope<'s, &'e ()>,
     samplers: Vec<Sampler<S>>,
-    room: Vec<Worker<'e, S>>,
+    workers: &mut Vec<Worker<'e, S>>,
     run: &'e Run,
     gate: &'e G,
     ended: &'e Flags,
-) -> (Vec<Worker<'e, S>>, bool)
+) -> bool
 where
     S::End: Send + 'e,
     requires few { vec_len samplers ≤ RUN_CHANNELS }
-    requires empty { vec_len room ≡ 0 }
-    requires enough { vec_len samplers ≤ vec_capacity room }
-    ensures of_samplers { result.1 ≡ true
-        → map (λ h. h.promise.sampler.value) result.0.items ≡ samplers.items }
-    ensures of_run { All (λ h. h.promise.run.now ≡ run.now) result.0.items }
-    ensures few { vec_len result.0 ≤ vec_len samplers }
+    requires empty { vec_len workers.old ≡ 0 }
+    requires enough { vec_len samplers ≤ vec_capacity workers.old }
+    ensures of_samplers { result ≡ true
+        → map (λ h. h.promise.sampler.value) workers.new.items ≡ samplers.items }
+    ensures of_run { All (λ h. h.promise.run.now ≡ run.now) workers.new.items }
+    ensures few { vec_len workers.new ≤ vec_len samplers }
 {
-    let mut workers = room;
     for sampler in samplers {
-        let flag = &ended[workers.len()];
-        let Some(worker) = start_worker(scope, sampler, run, gate, flag) else {
-            return (workers, false);
-        };
-        workers.push_reserved(worker);
+        if !start_next(scope, sampler, workers, run, gate, ended) {
+            return false;
+        }
     }
-    (workers, true)
+    true
+}
+
+/// Starts the thread of the next sampler, and tells whether one could be had.
+fn start_next<'s, 'e, S: SendEnd + Send + 'e, G: Gate + Sync + 'e>(
+    scope: &'s Scope<'s, &'e ()>,
+    sampler: Sampler<S>,
+    workers: &mut Vec<Worker<'e, S>>,
+    run: &'e Run,
+    gate: &'e G,
+    ended: &'e Flags,
+) -> bool
+where
+    S::End: Send + 'e,
+    requires few { vec_len workers.old < RUN_CHANNELS }
+    requires room { vec_len workers.old < vec_capacity workers.old }
+    ensures of_sampler { result ≡ true → map (λ h. h.promise.sampler.value) workers.new.items
+        ≡ map (λ h. h.promise.sampler.value) workers.old.items ++ sampler ∷ [] }
+    ensures of_run { All (λ h. h.promise.run.now ≡ run.now) workers.old.items
+        → All (λ h. h.promise.run.now ≡ run.now) workers.new.items }
+    ensures len { vec_len workers.new ≤ vec_len workers.old + 1 }
+    ensures more { result ≡ true → vec_len workers.new ≡ vec_len workers.old + 1 }
+    ensures room { vec_capacity workers.new ≡ vec_capacity workers.old }
+{
+    let flag = &ended[workers.len()];
+    let Some(worker) = start_worker(scope, sampler, run, gate, flag) else {
+        return false;
+    };
+    workers.push_reserved(worker);
+    true
 }
 
 /// Starts the thread of a sampler, if one can be had.
@@ -301,15 +328,56 @@ fn join_all<'e, R: Threads, S: SendEnd>(
     ensures late { IfErr result MayComeLate }
 {
     let mut ends = room;
+    let refused = join_each(rt, workers, &mut ends)?;
+    Ok((ends, refused))
+}
+
+/// Joins the threads, appends what is left of each sampler, and tells how many of their steps were
+/// refused.
+fn join_each<'e, R: Threads, S: SendEnd>(
+    rt: &R,
+    workers: Vec<Worker<'e, S>>,
+    ends: &mut Vec<SamplerEnd<S::End>>,
+) -> Result<u64, SimFault>
+    requires few { vec_len workers ≤ RUN_CHANNELS }
+    requires empty { vec_len ends.old ≡ 0 }
+    requires enough { vec_len workers ≤ vec_capacity ends.old }
+    ensures worked { IfOk result (λ refused. (run : RunData)
+        → All (λ h. h.promise.run.now ≡ run) workers.entry.items
+        → HaveWorked S.SendEnd S.End.RingEnd
+        (map (λ h. h.promise.sampler.value) workers.entry.items) (map run_step run.steps)
+        ends.new.items refused) }
+    ensures late { IfErr result MayComeLate }
+{
     let mut refused = 0;
     for worker in workers {
-        let Some((end, more)) = join_worker(rt, worker) else {
-            return Err(SimFault::EndLost);
-        };
+        let more = join_next(rt, worker, ends)?;
         refused += more;
-        ends.push_reserved(end);
     }
-    Ok((ends, refused))
+    Ok(refused)
+}
+
+/// Joins the thread of the next sampler, appends what is left of that, and tells how many of its
+/// steps were refused.
+fn join_next<'e, R: Threads, S: SendEnd>(
+    rt: &R,
+    worker: Worker<'e, S>,
+    ends: &mut Vec<SamplerEnd<S::End>>,
+) -> Result<u64, SimFault>
+    requires room { vec_len ends.old < vec_capacity ends.old }
+    ensures left { IfOk result (λ refused. IsOneMoreLeft S.SendEnd S.End.RingEnd
+        worker.entry.promise.sampler.value (map run_step worker.entry.promise.run.now.steps)
+        ends.old.items ends.new.items refused) }
+    ensures few { IfOk result (λ refused. refused ≤ MAX_STEPS) }
+    ensures late { IfErr result MayComeLate }
+    ensures len { OnOk result (vec_len ends.new ≡ vec_len ends.old + 1) }
+    ensures room { OnOk result (vec_capacity ends.new ≡ vec_capacity ends.old) }
+{
+    let Some((end, refused)) = join_worker(rt, worker) else {
+        return Err(SimFault::EndLost);
+    };
+    ends.push_reserved(end);
+    Ok(refused)
 }
 
 /// Joins the thread of a sampler: what is left of that, if anything, and how many of its steps

@@ -1,5 +1,6 @@
 //! The elements of arrays, in their places.
 ghost use Rattle.std.specs.Prelude.{◌≡◌, ◌++◌, IfOk, OnOk, map, string_bytes};
+ghost use Rattle.std.specs.List.{flat_map};
 ghost use Rattle.a2l.specs.Described.{description_seen};
 ghost use Rattle.a2l.specs.Elements.{element_address, elements_in};
 ghost use Rattle.a2l.specs.Resolved.{described_measurement};
@@ -30,9 +31,7 @@ pub fn with_elements<H: Holder>(
     } = description;
     let mut left_out = left_out;
     let mut parts = Vec::new(alloc);
-    for measurement in measurements {
-        add_parts(alloc, &mut parts, &mut left_out, measurement, holder)?;
-    }
+    add_all(alloc, &mut parts, &mut left_out, measurements, holder)?;
     Ok(Description {
         measurements: parts,
         methods,
@@ -40,6 +39,30 @@ pub fn with_elements<H: Holder>(
         tick,
         form,
     })
+}
+
+/// Appends what stands in the places of measurements, and the names of those for which that is
+/// nothing.
+fn add_all<H: Holder>(
+    alloc: Global,
+    parts: &mut Vec<Measurement>,
+    left_out: &mut Vec<String>,
+    measurements: Vec<Measurement>,
+    holder: &H,
+) -> Result<(), AllocError>
+    ensures parts { OnOk result (map described_measurement parts.new.items
+        ≡ map described_measurement parts.old.items
+        ++ flat_map (parts_of (H.held holder.now))
+        (map described_measurement measurements.items)) }
+    ensures left_out { OnOk result (map (λ s. string_bytes s) left_out.new.items
+        ≡ map (λ s. string_bytes s) left_out.old.items
+        ++ flat_map (name_if_none (H.held holder.now))
+        (map described_measurement measurements.items)) }
+{
+    for measurement in measurements {
+        add_parts(alloc, parts, left_out, measurement, holder)?;
+    }
+    Ok(())
 }
 
 /// Appends what stands in the place of a measurement, or its name if that is nothing.

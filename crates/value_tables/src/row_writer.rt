@@ -116,7 +116,8 @@ fn write_names<W: Write + Drop>(
     ensures { OnOk result (HasNames W.contents rows.old rows.new columns.now) }
 {
     for c in 0..columns.len() {
-        put_head(rows, cell, columns[c].name, columns[c].unit)?;
+        let column = &columns[c];
+        put_head(rows, cell, column.name, column.unit)?;
     }
     Ok(())
 }

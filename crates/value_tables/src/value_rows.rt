@@ -2,7 +2,7 @@
 ghost use Rattle.std.specs.Prelude.{◌≡◌, ◌↔◌, ◌^◌, ◌<◌, [], ℕ, IfOk, IfSome, IsOk, List, None};
 ghost use Rattle.std.specs.Prelude.{length, option_map};
 ghost use Rattle.std.specs.Option.{option_copied};
-ghost use Rattle.std.specs.Io.KnownBytes.{Appends};
+ghost use Rattle.std.specs.Io.KnownBytes.{Appends, Keeps};
 ghost use Rattle.csv.specs.Writing.{text_written};
 ghost use Rattle.sample_tables.specs.Rows.{IsBetweenRows};
 ghost use Rattle.value_tables.specs.Lists.{HasSources};
@@ -11,7 +11,7 @@ ghost use Rattle.value_tables.specs.ValueRows.{IsCsv, IsRowIn};
 use crate::column::Column;
 use crate::list_columns::{ListColumns, list_at, lists_of};
 use crate::row_writer::RowWriter;
-use csv::{Terminator, WriterBuilder};
+use csv::{Terminator, Writer, WriterBuilder};
 use daq_reader::{ListShape, SampleLog, SampleView, Samples};
 use measured_values::Tick;
 use sample_tables::{Spot, Spots};
@@ -108,13 +108,7 @@ impl<'a, W: Write + Drop> ValueRows<'a, W> {
             × Appends self.entry.start (W.contents out) text) }
     {
         let ValueRows { rows, failed, .. } = self;
-        if let Some(kind) = failed {
-            return Err(io::Error::from(kind));
-        }
-        match rows.rows.into_inner() {
-            Ok(out) => Ok(out),
-            Err(_) => Err(io::Error::from(ErrorKind::Other)),
-        }
+        written_out(rows.rows, failed)
     }
 }
 
@@ -139,6 +133,21 @@ impl<'a, W: Write + Drop> Samples for ValueRows<'a, W> {
         self.failed = go_on(self.failed, &mut self.rows, &self.columns, list, sample, at);
         // for the proof: clauses speak of the samples that were handed over
         self.log.note(place, sample);
+    }
+}
+
+/// Writes out what is left of rows, and gives the writer under them back, unless something failed
+/// before.
+fn written_out<W: Write + Drop>(rows: Writer<W>, failed: Option<ErrorKind>) -> io::Result<W>
+    ensures { IfOk result (λ out. (failed ≡ None)
+        × Keeps (text_written W.contents rows) (W.contents out)) }
+{
+    if let Some(kind) = failed {
+        return Err(io::Error::from(kind));
+    }
+    match rows.into_inner() {
+        Ok(out) => Ok(out),
+        Err(_) => Err(io::Error::from(ErrorKind::Other)),
     }
 }
 

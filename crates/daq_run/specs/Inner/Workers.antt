@@ -1,5 +1,5 @@
 -- What the threads of the event channels do.
-use Rattle.std.specs.Prelude.{◌≡◌, ℕ, ◌+◌, Bool, false, List, [], ◌∷◌, nat_eq}
+use Rattle.std.specs.Prelude.{◌≡◌, ℕ, ◌+◌, Bool, false, List, [], ◌∷◌, ◌++◌, nat_eq}
 use Rattle.std.specs.Prelude.{IfSome, Option, count_by}
 use Rattle.channel_ring.specs.declared.ends.SendEnd.{Ghosts as SendGhosts}
 use Rattle.channel_ring.specs.declared.ends.RingEnd.{Ghosts as EndGhosts}
@@ -47,6 +47,16 @@ pub record IsLeftAfterSteps {S E : Type 0} (send : SendGhosts S E) (ring : EndGh
       (opening : Opening) → StandsAfter send ring before (first_past opening)
       → EndHasAnswered (setting_of_sampler send ring before) (joined ring left) opening
       (asked_of before.channel steps) refused
+
+-- to the ends of other samplers comes that of a sampler that was asked for what the steps ask of
+-- its channel, of which so many were refused
+pub record IsOneMoreLeft {S E : Type 0} (send : SendGhosts S E) (ring : EndGhosts E)
+    (before : SamplerState S) (steps : List RunStep) (ends more : List (SamplerEndState E))
+    (refused : ℕ)
+    : Type 0 where
+  pub left : SamplerEndState E
+  pub appended : more ≡ ends ++ left ∷ []
+  pub is_left : IsLeftAfterSteps send ring before steps left refused
 
 -- a sampler did the steps of its channel, of which so many were refused, and was finished: what is
 -- left of it, if anything is

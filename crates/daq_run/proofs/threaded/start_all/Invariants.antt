@@ -7,5 +7,5 @@ invariant-loop-sampler g l = record {
   of_samplers : map (λ h. h.promise.sampler.value) l.workers.items ≡ l.yielded;
   of_run : All (λ h. h.promise.run.now ≡ l.run) l.workers.items;
   as_many : vec_len l.workers ≡ length l.yielded;
-  room : vec_capacity l.workers ≡ vec_capacity l.fn.room;
+  room : vec_capacity l.workers ≡ vec_capacity l.fn.workers;
 }

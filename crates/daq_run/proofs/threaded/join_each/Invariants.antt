@@ -3,7 +3,7 @@ use Rattle.run_file.specs.RunFile.{RunData}
 use Rattle.run_file.specs.declared.limits.TheConstants.{MAX_STEPS}
 use Rattle.daq_run.specs.Steps.{run_step}
 use Rattle.daq_run.specs.Inner.Workers.{HaveWorked}
-use Rattle.daq_run.proofs.threaded.join_all.Given as goal
+use Rattle.daq_run.proofs.threaded.join_each.Given as goal
 
 -- those so far kept their promises
 abbrev pub invariant-loop-worker : goal.invariant-loop-worker
@@ -12,5 +12,5 @@ invariant-loop-worker g l = record {
       → HaveWorked g.S.SendEnd g.S.End.RingEnd (map (λ h. h.promise.sampler.value) l.yielded) (map run_step run.steps) l.ends.items l.refused;
   small : l.refused ≤ MAX_STEPS * length l.yielded;
   as_many : vec_len l.ends ≡ length l.yielded;
-  room : vec_capacity l.ends ≡ vec_capacity l.fn.room;
+  room : vec_capacity l.ends ≡ vec_capacity l.fn.ends;
 }
