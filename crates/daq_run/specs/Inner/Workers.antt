@@ -54,6 +54,7 @@ pub record IsOneMoreLeft {S E : Type 0} (send : SendGhosts S E) (ring : EndGhost
     (before : SamplerState S) (steps : List RunStep) (ends more : List (SamplerEndState E))
     (refused : ℕ)
     : Type 0 where
+  -- fixed by `appended`
   pub left : SamplerEndState E
   pub appended : more ≡ ends ++ left ∷ []
   pub is_left : IsLeftAfterSteps send ring before steps left refused
