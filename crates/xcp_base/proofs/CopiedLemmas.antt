@@ -1,7 +1,8 @@
 -- What spans copy of bytes.
-use Rattle.std.proofs.Common.{◌≡◌, ℕ, ◌+◌, ◌-◌, ◌<◌, ◌≤◌, set, List, [], ◌∷◌, ◌++◌, length, take, drop, get_or, sym, ap, ◌∙◌, append-nil, arith}
+use Rattle.std.proofs.Common.{◌≡◌, ℕ, ◌+◌, ◌-◌, ◌<◌, ◌≤◌, set, List, [], ◌∷◌, ◌++◌, length, take, drop, get_or, sym, ap, ◌∙◌, append-nil, append_assoc, arith, length-append}
 use Rattle.std.specs.Prelude.{All, slice_range}
 use Rattle.std.proofs.Math.Seq.{take-length}
+use Rattle.std.proofs.lemmas.Grind.{flat_map-append}
 use Rattle.std.proofs.lemmas.List.{get_or-drop, length-drop, length-take-le, take_more, take_more_set}
 use Rattle.std.proofs.lemmas.List.Elements.{All-append, All-drop, All-nil, All-take}
 use Rattle.xcp_base.specs.Copied.{IsSpanAt, copied_at}
@@ -35,3 +36,18 @@ read-all xs ys from n k long most least same =
     let all : k ≡ length xs = omega (arith, long, most, least) in
     let many : k ≡ from + n - from = omega (arith, most, least) in
     sym (take-length xs) ∙ ap (λ i. take i xs) (sym all) ∙ same ∙ ap (λ i. take i (drop from ys)) many
+
+-- the next span copies what it does behind what those before it copy
+pub copied_at-more : (bytes : List ℕ) (size : ℕ) (offsets : List ℕ) (i : ℕ) → i < length offsets
+    → copied_at bytes size (take (i + 1) offsets) ≡ copied_at bytes size (take i offsets) ++ copied_at bytes size (get_or offsets i 0 ∷ [])
+copied_at-more bytes size offsets i h = ap (copied_at bytes size) (take_more offsets i 0 h) ∙ flat_map-append _ (take i offsets) (get_or offsets i 0 ∷ [])
+
+-- and so it is written behind them
+pub written_more : (bytes : List ℕ) (size : ℕ) (offsets : List ℕ) (i : ℕ) → i < length offsets → (front : List ℕ)
+    → (front ++ copied_at bytes size (take i offsets)) ++ copied_at bytes size (get_or offsets i 0 ∷ []) ≡ front ++ copied_at bytes size (take (i + 1) offsets)
+written_more bytes size offsets i h front =
+    append_assoc front (copied_at bytes size (take i offsets)) (copied_at bytes size (get_or offsets i 0 ∷ [])) ∙ ap (λ those. front ++ those) (sym (copied_at-more bytes size offsets i h))
+
+pub length-more : (bytes : List ℕ) (size : ℕ) (offsets : List ℕ) (i : ℕ) → i < length offsets
+    → length (copied_at bytes size (take (i + 1) offsets)) ≡ length (copied_at bytes size (take i offsets)) + length (copied_at bytes size (get_or offsets i 0 ∷ []))
+length-more bytes size offsets i h = ap length (copied_at-more bytes size offsets i h) ∙ length-append (copied_at bytes size (take i offsets)) (copied_at bytes size (get_or offsets i 0 ∷ []))

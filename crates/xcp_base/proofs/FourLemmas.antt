@@ -1,5 +1,5 @@
 -- Spans taken four by four.
-use Rattle.std.proofs.Common.{◌≡◌, ℕ, zero, suc, ◌+◌, ◌*◌, ◌<◌, ◌≤◌, List, [], ◌∷◌, ◌++◌, length, take, drop, get_or, refl, sym, ap, subst, ◌∙◌, arith}
+use Rattle.std.proofs.Common.{◌≡◌, ℕ, zero, suc, ◌+◌, ◌*◌, ◌<◌, ◌≤◌, List, [], ◌∷◌, ◌++◌, length, take, drop, get_or, refl, sym, ap, subst, ◌∙◌, append-nil, append_assoc, length-append, arith}
 use Rattle.std.specs.Prelude.{All, flat_map}
 use Rattle.std.specs.Simd.{first_chunks}
 use Rattle.std.proofs.Math.Seq.{take-add}
@@ -54,3 +54,28 @@ pub copied_at-fours_then_rest : (bytes : List ℕ) (size k : ℕ) (fours : List 
     → copied_at bytes size offsets ≡ copied_at bytes size (in_fours fours) ++ copied_at bytes size rest
 copied_at-fours_then_rest bytes size k fours rest offsets front back =
     ap (copied_at bytes size) (sym (fours_then_rest k fours rest offsets front back)) ∙ flat_map-append _ (in_fours fours) rest
+
+-- four spans copy what each copies, one behind another
+pub copied_at-four : (bytes : List ℕ) (size : ℕ) (four : List ℕ) → length four ≡ 4
+    → copied_at bytes size four ≡ copied_at bytes size (get_or four 0 0 ∷ []) ++ (copied_at bytes size (get_or four 1 0 ∷ []) ++ (copied_at bytes size (get_or four 2 0 ∷ []) ++ copied_at bytes size (get_or four 3 0 ∷ [])))
+copied_at-four bytes size [] e = absurd (omega (arith, e))
+copied_at-four bytes size (a ∷ []) e = absurd (omega (arith, e))
+copied_at-four bytes size (a ∷ b ∷ []) e = absurd (omega (arith, e))
+copied_at-four bytes size (a ∷ b ∷ c ∷ []) e = absurd (omega (arith, e))
+copied_at-four bytes size (a ∷ b ∷ c ∷ d ∷ []) e = simp append-nil
+copied_at-four bytes size (a ∷ b ∷ c ∷ d ∷ more ∷ rest) e = absurd (omega (arith, e))
+
+-- pieces written one behind another are written together
+pub four_pieces : (front a b c d : List ℕ) → (((front ++ a) ++ b) ++ c) ++ d ≡ front ++ (a ++ (b ++ (c ++ d)))
+four_pieces front a b c d = simp append_assoc
+
+-- and are as long together
+length-four : (a b c d : List ℕ) → length (a ++ (b ++ (c ++ d))) ≡ length a + (length b + (length c + length d))
+length-four a b c d = simp length-append
+
+-- four spans copy as many bytes as each
+pub length-copied_at-spans : (bytes : List ℕ) (size : ℕ) (four : List ℕ) → length four ≡ 4
+    → length (copied_at bytes size four) ≡ length (copied_at bytes size (get_or four 0 0 ∷ [])) + (length (copied_at bytes size (get_or four 1 0 ∷ [])) + (length (copied_at bytes size (get_or four 2 0 ∷ [])) + length (copied_at bytes size (get_or four 3 0 ∷ []))))
+length-copied_at-spans bytes size four e =
+    let copy : ℕ → List ℕ = λ k. copied_at bytes size (get_or four k 0 ∷ []) in
+    ap length (copied_at-four bytes size four e) ∙ length-four (copy 0) (copy 1) (copy 2) (copy 3)

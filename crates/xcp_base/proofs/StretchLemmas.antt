@@ -1,9 +1,11 @@
 -- Stretches of spans, read from the front.
-use Rattle.std.proofs.Common.{◌≡◌, ℕ, ◌+◌, ◌<◌, ◌≤◌, List, [], ◌∷◌, length, drop, ap, subst, ◌∙◌, arith, get_or}
+use Rattle.std.proofs.Common.{◌≡◌, ℕ, ◌+◌, ◌<◌, ◌≤◌, List, [], ◌∷◌, length, take, drop, sym, ap, subst, ◌∙◌, append-nil, arith, get_or}
+use Rattle.std.specs.Prelude.{All}
 use Rattle.std.proofs.lemmas.List.{drop_all, drop_more, length-drop}
+use Rattle.std.proofs.lemmas.List.Elements.{All-head}
 use Rattle.xcp_base.specs.declared.memory_view.MemoryView.{MemoryView}
 use Rattle.xcp_base.specs.declared.stretch.Stretch.{Stretch}
-use Rattle.xcp_base.specs.Copied.{AreSpansIn, AreStretches, copied_from, spans_in}
+use Rattle.xcp_base.specs.Copied.{AreSpansIn, AreStretches, IsSpanAt, bytes_in, copied_at, copied_from, spans_in}
 
 -- so many spans are there, and those behind them are as many as follow
 pub record Parts (count more : ℕ) (offsets : List ℕ) : Type 0 where
@@ -32,3 +34,25 @@ copied_from-next memory stretches i d offsets h = ap (λ more. copied_from memor
 -- behind the last stretch nothing is copied
 pub copied_from-end : (memory : MemoryView) (stretches : List Stretch) (i : ℕ) (offsets : List ℕ) → length stretches ≤ i → copied_from memory (drop i stretches) offsets ≡ []
 copied_from-end memory stretches i offsets h = ap (λ more. copied_from memory more offsets) (drop_all i stretches h)
+
+-- where one span is all that is copied: it lies within its bytes, and all is what it copies of them
+pub record OneSpan (memory : MemoryView) (stretches : List Stretch) (offsets : List ℕ) (d : Stretch) (part : List ℕ) : Type 0 where
+  pub inside : IsSpanAt (length part) (get_or stretches 0 d).size (get_or offsets 0 0)
+  pub all : copied_from memory stretches offsets ≡ copied_at part (get_or stretches 0 d).size (get_or offsets 0 0 ∷ [])
+
+pub one_span : (memory : MemoryView) (stretches : List Stretch) (offsets : List ℕ) (d : Stretch) (part : List ℕ) → part ≡ bytes_in memory (get_or stretches 0 d) → (length offsets ≡ 1) × (length stretches ≡ 1)
+    → AreStretches stretches offsets → AreSpansIn memory stretches offsets → OneSpan memory stretches offsets d part
+one_span memory [] offsets d part is one count are = absurd (omega (arith, one.1))
+one_span memory (s ∷ t ∷ more) offsets d part is one count are = absurd (omega (arith, one.1))
+one_span memory (s ∷ []) [] d part is one count are = absurd (omega (arith, one.0))
+one_span memory (s ∷ []) (o ∷ p ∷ more) d part is one count are = absurd (omega (arith, one.0))
+one_span memory (s ∷ []) (o ∷ []) d part is one count are =
+    let single : s.count ≡ 1 = omega (arith, count) in
+    let Within : ℕ → Type 0 = IsSpanAt (length (bytes_in memory s)) s.size in
+    let within : All Within (o ∷ []) = subst (λ n. All Within (take n (o ∷ []))) single are.0 in
+    record {
+      inside = subst (λ bytes. IsSpanAt (length bytes) s.size o) (sym is) (All-head Within o [] within);
+      all = append-nil (copied_at (bytes_in memory s) s.size (take s.count (o ∷ [])))
+          ∙ ap (λ n. copied_at (bytes_in memory s) s.size (take n (o ∷ []))) single
+          ∙ ap (λ bytes. copied_at bytes s.size (o ∷ [])) (sym is);
+    }
