@@ -1,7 +1,5 @@
 -- The packets of a plan's sample keep to the limits.
-use Rattle.std.proofs.Common.{◌≡◌, ℕ, ◌*◌, ◌<◌, ◌≤◌, Bool, List, [], ◌∷◌, length, arith, sym, subst}
-use Rattle.std.proofs.lemmas.List.{length-append}
-use Rattle.std.proofs.lemmas.List.Elements.{All-head, All-tail}
+use Rattle.std.proofs.Common.{◌≡◌, ℕ, ◌<◌, ◌≤◌, Bool, List, [], length, arith, sym, subst}
 use Rattle.std.proofs.lemmas.List.FromFn.{get_or-map-range_with_len, length-map-range_with_len}
 use Rattle.std.specs.Prelude.{All}
 use Rattle.xcp_base.specs.declared.id_kind.IdKind.{IdKind}
@@ -14,7 +12,6 @@ use Rattle.copy_plan.specs.Packet.{packet, packets}
 use Rattle.copy_plan.proofs.FrameLemmas.{frames_long}
 use Rattle.copy_plan.proofs.PacketLemmas.{packet_has_len}
 use Rattle.sampler.specs.Limits.{KeepsTo}
-use Rattle.frame_writer.specs.Frame.{unnumbered}
 
 field_some : (id : IdKind) → 1 ≤ field_len id
 field_some Absolute = omega arith

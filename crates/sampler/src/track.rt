@@ -22,7 +22,7 @@ pub const FIRST_TRACK: Track = Track {
 };
 
 /// What a sampler keeps of one list from trigger to trigger.
-#[derive(Clone, Copy, Debug, PartialEq, Eq)]
+#[derive(Clone, Copy)]
 pub struct Track {
     /// The list runs.
     pub running: bool,
