@@ -1,6 +1,6 @@
 //! What SET_DAQ_LIST_MODE sets: event channel, prescaler, timestamp and priority.
 /// SET_DAQ_LIST_MODE: the mode of a DAQ list.
-#[derive(Clone, Copy, Debug, PartialEq, Eq)]
+#[derive(Clone, Copy)]
 pub struct Mode {
     pub channel: u8,
     pub prescaler: u8,

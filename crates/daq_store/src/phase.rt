@@ -3,7 +3,7 @@ ghost use Rattle.std.specs.Prelude.{◌≡◌};
 ghost use Rattle.daq_store.specs.Shape.{forbids_lists, forbids_odts, forbids_entries};
 
 /// The last allocation since FREE_DAQ.
-#[derive(Clone, Copy, Debug, PartialEq, Eq)]
+#[derive(Clone, Copy)]
 pub enum Phase {
     Free,
     Daq,

@@ -1,4 +1,4 @@
-use Rattle.std.proofs.Common.{◌≡◌, ◌∙◌, ◌+◌, ◌<◌, sym, ap, refl, slice_index_or, length}
+use Rattle.std.proofs.Common.{◌≡◌, ◌∙◌, ap, refl, slice_index_or}
 use Rattle.daq_store.specs.Configuration.{Configuration, odt_entries}
 use Rattle.daq_store.proofs.ReadyLemmas.{odt_at}
 use Rattle.daq_store.proofs.list_conf.ListConf.packet_len.Goals as goal

@@ -1,5 +1,5 @@
 -- one packet is too long; one ODT more is filled and short
-use Rattle.std.proofs.Common.{◌≡◌, ◌∙◌, ℕ, ◌+◌, ◌<◌, true, slice_index_or, length, refl, sym, ap, arith}
+use Rattle.std.proofs.Common.{◌≡◌, ◌∙◌, ℕ, ◌<◌, true, slice_index_or, length, sym, ap, arith}
 use Rattle.std.proofs.lemmas.Grind.{common_steps}
 use Rattle.xcp_base.specs.Packets.{packet_len}
 use Rattle.daq_store.specs.Configuration.{channel_of, odt_entries, entries_len, is_filled, is_short, is_stamped}
