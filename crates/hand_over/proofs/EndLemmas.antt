@@ -277,6 +277,38 @@ module _ {T L : Type 0} where
       (is ∙ out-longer p q received value l e ∙ ap (λ xs. xs ++ value ∷ []) (sym out)) c k
   lent-out p q received a b value (Err back) l out r c k is e = tt
 
+  -- the lender looked, and saw no more fetched
+  pub lender-looked : (p q : Pass T (Known T)) (out seen : List T) (received now : List (Parcel T L))
+      → q.table_id ≡ p.table_id → view q ≡ known true false out seen → out ≡ (view p).lent
+      → seen ≡ (view p).fetched → now ≡ received → IsLender p received → IsLender q now
+  lender-looked p q out seen received now same is same_out same_seen stays l = record {
+    line = subst (λ xs. IsLine q xs) (sym stays) (moved p q received same l.line);
+    lends = ap (λ (v : Known T). v.lends) is;
+    fetches_not = ap (λ (v : Known T). v.fetches) is;
+    seen = subst (λ (v : Known T). IsPrefix v.fetched v.lent)
+        (sym (is ∙ ap (λ xs. known true false out xs) same_seen
+        ∙ ap (λ xs. known true false xs (view p).fetched) same_out)) l.seen;
+    many = ap (λ (v : Known T). length v.fetched) is ∙ ap length same_seen ∙ l.many
+        ∙ sym (ap (λ xs. length (lefts xs)) stays);
+  }
+
+  -- the borrower was looked at: it gave the same, and no slot that was free is lost
+  pub borrower-looked : (p q : Pass T (Known T)) (sent now : List (Parcel T L)) (free room : ℕ)
+      → q.table_id ≡ p.table_id → view q ≡ view p → now ≡ sent → free ≤ room
+      → IsBorrower p sent free → IsBorrower q now room
+  borrower-looked p q sent now free room same is stays roomy b =
+      let one = ap (λ (v : Known T). length v.fetched) is in
+      let many = ap (λ xs. length (lefts xs)) (sym stays) in
+      record {
+        line = subst (λ xs. IsLine q xs) (sym stays) (moved p q sent same b.line);
+        lends_not = ap (λ (v : Known T). v.lends) is ∙ b.lends_not;
+        fetches = ap (λ (v : Known T). v.fetches) is ∙ b.fetches;
+        held = elim b.held [
+          | inl w ↦ inl (one ∙ w ∙ many)
+          | inr w ↦ inr (one ∙ w.0 ∙ ap (λ n. n + 1) many, omega (arith, roomy, w.1))
+        ];
+      }
+
   -- what comes behind the pass of the place is left of a value
   pub left-of : (leaves : T → L → Type 0) (p shown : Pass T (Known T)) (received : List (Parcel T L))
       (left : L) (line : IsLine p received) → Comes leaves received (Back left shown)

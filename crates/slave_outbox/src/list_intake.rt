@@ -3,7 +3,7 @@ ghost use Rattle.std.specs.Prelude.{◌≡◌};
 ghost use Rattle.slave_outbox.specs.IntakeInner.{lets_pass, marked, started, stopped, threw, wrote};
 
 /// What an intake keeps of one DAQ list.
-#[derive(Clone, Copy, Debug, PartialEq, Eq)]
+#[derive(Clone, Copy)]
 pub struct ListIntake {
     /// The list runs, as the slave ordered it.
     pub runs: bool,

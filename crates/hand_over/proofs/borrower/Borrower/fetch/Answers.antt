@@ -1,5 +1,6 @@
-use Rattle.std.proofs.Common.{sym, ap, ◌∙◌, length, true≢false}
-use Rattle.hand_over.proofs.EndLemmas.{fetched, positive}
+use Rattle.std.proofs.Common.{refl, sym, ap, ◌∙◌, length, true≢false}
+use Rattle.rtrb.specs.Ring.{known_free, sent}
+use Rattle.hand_over.proofs.EndLemmas.{borrower-looked, fetched, positive}
 use Rattle.hand_over.proofs.PlaceLemmas.{fetches}
 use Rattle.hand_over.proofs.borrower.Borrower.fetch.Goals as goal
 
@@ -7,6 +8,16 @@ pub try_pop_as-requires-clause-rule : goal.try_pop_as-requires-clause-rule
 try_pop_as-requires-clause-rule g c =
     let b = c.self.invariant.1 in
     fetches c.self.inside.pass.id _ b.lends_not b.fetches
+
+-- nothing changed but what is known to be free
+pub invariant_of-self : goal.invariant_of-self
+invariant_of-self g c =
+    let looked = c.is_full.ensures.looked in (
+      c.self.invariant.0,
+      borrower-looked c.self.inside.pass c.self.inside.pass (sent c.self.inside.giving)
+          (sent c.is_full.new.self) (known_free c.self.inside.giving)
+          (known_free c.is_full.new.self) refl refl looked.1 looked.2 c.self.invariant.1,
+    )
 
 pub invariant_of-self-2 : goal.invariant_of-self-2
 invariant_of-self-2 g c =

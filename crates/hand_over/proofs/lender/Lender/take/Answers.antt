@@ -1,10 +1,31 @@
 use Rattle.std.proofs.Common.{sym, ap, ◌∙◌, subst, refl, ◌++◌, ◌∷◌, []}
 use mathlib.Core.List.{IsPrefix}
 use Rattle.rtrb.specs.Ring.{known_items, received}
+use Rattle.hand_over.specs.Inner.{IsLender}
 use Rattle.hand_over.specs.Lines.{Comes}
 use Rattle.hand_over.proofs.EndLemmas.{came, comes-back, left-of, same-name}
 use Rattle.hand_over.proofs.PlaceLemmas.{sees}
 use Rattle.hand_over.proofs.lender.Lender.take.Goals as goal
+
+-- nothing was received, and nothing else changed
+pub invariant_of-self : goal.invariant_of-self
+invariant_of-self g c = (
+  c.self.invariant.0,
+  c.self.invariant.1,
+  subst (λ xs. IsLender c.self.inside.pass xs) (sym c.in_default.ensures.empty.0)
+      c.self.invariant.2,
+)
+
+-- what came shows a pass of the place that the line began with
+pub absorb-requires-clause-queue : goal.absorb-requires-clause-queue
+absorb-requires-clause-queue g c =
+    let l = c.self.invariant.2 in
+    let of = left-of g.R.Rule.leaves c.self.inside.pass c.in-Back.shown (received c.self.inside.coming)
+    c.in-Back.left l.line
+    (subst (λ x. Comes g.R.Rule.leaves (received c.self.inside.coming) x) c.in-Back.is
+    c.in-Ok.ensures.ok.2) in
+    let place = c.self.invariant.0.0 ∙ ap (λ q. q.table.shared.table_id) (sym c.deref.ensures) in
+    ((place, c.self.invariant.0.1), (of.one_place ∙ l.line.one_place ∙ place, of.none_out))
 
 pub absorb-requires-clause-rule : goal.absorb-requires-clause-rule
 absorb-requires-clause-rule g c =

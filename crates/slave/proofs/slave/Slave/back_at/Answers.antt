@@ -1,6 +1,14 @@
 use Rattle.slave.proofs.GatheringLemmas.{one-busy, one-newer, one-older}
 use Rattle.slave.proofs.slave.Slave.back_at.Goals as goal
 
+-- the older one came back, and nothing else changed
+pub returns-in-Some-clause-back : goal.returns-in-Some-clause-back
+returns-in-Some-clause-back c = c.in-Some.ensures.back
+
+-- the older one didn't come back
+pub returns-then-not-is_over-clause-back : goal.returns-then-not-is_over-clause-back
+returns-then-not-is_over-clause-back c = c.in_default.ensures.back
+
 pub returns-in-Some-clause-one : goal.returns-in-Some-clause-one
 returns-in-Some-clause-one c =
     one-older c.args.self.now c.take_older.new.self c.args.c c.in-Some.finished c.in-Some.ensures.there

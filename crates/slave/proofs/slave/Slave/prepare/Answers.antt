@@ -8,6 +8,19 @@ use Rattle.slave.proofs.slave.Slave.prepare.Goals as goal
 pub returns-then-is_empty-clause-ok : goal.returns-then-is_empty-clause-ok
 returns-then-is_empty-clause-ok c = none-prepare c.args.self.now c.args.lists (c.is_empty.ensures.none c.if-is_empty.true)
 
+pub start_anew-requires-clause-idle : goal.start_anew-requires-clause-idle
+start_anew-requires-clause-idle c = c.is_idle.ensures.idle c.if-is_idle.true
+
+pub start_anew-requires-clause-some : goal.start_anew-requires-clause-some
+start_anew-requires-clause-some c = c.is_empty.ensures.some c.if-is_empty.false
+
+-- a new measurement was opened for them, or in vain
+pub returns-then-is_idle-clause-ok : goal.returns-then-is_idle-clause-ok
+returns-then-is_idle-clause-ok c = c.start_anew.ensures.ok
+
+pub returns-then-is_idle-clause-err : goal.returns-then-is_idle-clause-err
+returns-then-is_idle-clause-err c = c.start_anew.ensures.err
+
 pub returns-then-not-stands-clause-err : goal.returns-then-not-stands-clause-err
 returns-then-not-stands-clause-err c =
     let profile = subst (λ s. s.session.store.profile ≡ lists_of s.session.profile) c.self.view_is (ap (λ s. s.profile) (sym c.store.ensures.value) ∙ c.store.ensures.profile) in

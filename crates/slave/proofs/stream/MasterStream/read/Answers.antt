@@ -1,5 +1,6 @@
 use Rattle.session.specs.Standing.{given_by}
-use Rattle.std.proofs.Common.{take as first, refl, sym, subst, inl, inr, arith}
+use Rattle.std.proofs.Common.{take as first, refl, ap, sym, subst, inl, inr, arith}
+use Rattle.std.specs.Prelude.{Ok}
 use Rattle.slave.specs.Receiving.{BreaksOff, Receives}
 use Rattle.slave.proofs.ReceivingLemmas.{breaks-from, ends-from, far-from, has-room-not, on-err, receives-from, receives-none, within-from}
 use Rattle.slave.proofs.stream.MasterStream.read.Goals as goal
@@ -36,3 +37,34 @@ loop-preserved c =
       still_open = more.stays_open;
       no_room = λ full. absurd (has-room-not c.loop.slave c.args.slave.now c.if-not-has_room.ensures (now.no_room full).2 full);
     }
+
+-- what was taken so far is what is answered
+pub returns-then-at-bytes-clause-ok : goal.returns-then-at-bytes-clause-ok
+returns-then-at-bytes-clause-ok c = c.loop.invariant.receives
+
+pub returns-then-at-bytes-clause-no_room : goal.returns-then-at-bytes-clause-no_room
+returns-then-at-bytes-clause-no_room c = λ full.
+    let none = c.loop.invariant.no_room full in
+    (ap Ok none.0, none.1, none.2)
+
+pub returns-then-not-has_room-clause-ok : goal.returns-then-not-has_room-clause-ok
+returns-then-not-has_room-clause-ok c = c.loop.invariant.receives
+
+pub returns-then-not-has_room-clause-ends : goal.returns-then-not-has_room-clause-ends
+returns-then-not-has_room-clause-ends c = c.loop.invariant.ends
+
+pub returns-then-not-has_room-clause-no_room : goal.returns-then-not-has_room-clause-no_room
+returns-then-not-has_room-clause-no_room c = λ full.
+    let none = c.loop.invariant.no_room full in
+    (ap Ok none.0, none.1, none.2)
+
+pub returns-clause-ok : goal.returns-clause-ok
+returns-clause-ok c = c.loop.invariant.receives
+
+pub returns-clause-ends : goal.returns-clause-ends
+returns-clause-ends c = c.loop.invariant.ends
+
+pub returns-clause-no_room : goal.returns-clause-no_room
+returns-clause-no_room c = λ full.
+    let none = c.loop.invariant.no_room full in
+    (ap Ok none.0, none.1, none.2)

@@ -11,3 +11,13 @@ returns-in-Err-clause-bad c = λ _. record {
   next = c.disconnect.ensures.next_stays;
   profile = c.disconnect.ensures.profile_stays;
 }
+
+-- what was read is what is answered
+pub returns-in-Ok-clause-ok : goal.returns-in-Ok-clause-ok
+returns-in-Ok-clause-ok c = c.in-Ok.ensures.ok
+
+pub returns-in-Ok-clause-all : goal.returns-in-Ok-clause-all
+returns-in-Ok-clause-all c = c.in-Ok.ensures.all
+
+pub returns-in-Ok-clause-ends : goal.returns-in-Ok-clause-ends
+returns-in-Ok-clause-ends c = c.in-Ok.ensures.ends

@@ -29,6 +29,10 @@ loop-c-init g c =
       as_many = refl;
     }
 
+-- nothing is in hand so far
+pub turn-requires-clause-nothing_in_hand : goal.turn-requires-clause-nothing_in_hand
+turn-requires-clause-nothing_in_hand g c = c.loop-c.invariant.turns.hand
+
 -- the sample stays in its ring
 pub returns-in-Stays-clause-turns : goal.returns-in-Stays-clause-turns
 returns-in-Stays-clause-turns g c =

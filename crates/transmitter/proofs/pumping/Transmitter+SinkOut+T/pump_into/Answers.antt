@@ -10,6 +10,21 @@ pump_on-requires-clause-nothing_in_hand g c =
     let s = c.args.self.now in
     none_of s.hand (sym s.held ∙ (sym c.closed.ensures ∙ c.if-closed.false))
 
+-- at most an item was taken of each ring, and there are 8
+pub as_one-requires-clause-few : goal.as_one-requires-clause-few
+as_one-requires-clause-few g c =
+    let e = c.pump_on.ensures in
+    omega (arith, e.few.taken, e.stop, c.args.self.now.few)
+
+pub as_one-requires-clause-few_frames : goal.as_one-requires-clause-few_frames
+as_one-requires-clause-few_frames g c =
+    let e = c.pump_on.ensures in
+    omega (arith, e.few.frames, e.stop, c.args.self.now.few)
+
+-- only the ring changed at which pumps go on
+pub invariant_of-self : goal.invariant_of-self
+invariant_of-self g c = record { few = c.pump_on.new.self.few; counted = c.pump_on.new.self.counted; held = c.pump_on.new.self.held }
+
 -- there is room for the frames of a sample for each ring, so each had its turn
 pub returns-clause-ok : goal.returns-clause-ok
 returns-clause-ok g c =

@@ -19,6 +19,21 @@ loop-c-init g c =
       as_many = refl;
     }
 
+-- nothing is in hand so far
+pub turn-requires-clause-nothing_in_hand : goal.turn-requires-clause-nothing_in_hand
+turn-requires-clause-nothing_in_hand g c = c.loop-c.invariant.turns.hand
+
+-- at most an item was taken of each ring, and there are 8
+pub as_one-requires-clause-few : goal.as_one-requires-clause-few
+as_one-requires-clause-few g c = omega (arith, c.loop-c.invariant.few.taken, c.loop-c.auto.c-end, c.len-c-end.ensures, c.args.self.now.few)
+
+pub as_one-requires-clause-few_frames : goal.as_one-requires-clause-few_frames
+as_one-requires-clause-few_frames g c = omega (arith, c.loop-c.invariant.few.frames, c.loop-c.auto.c-end, c.len-c-end.ensures, c.args.self.now.few)
+
+-- only the ring changed at which pumps go on
+pub invariant_of-self : goal.invariant_of-self
+invariant_of-self g c = record { few = c.loop-c.self.few; counted = c.loop-c.self.counted; held = c.loop-c.self.held }
+
 -- the writer failed
 pub returns-in-Stays-clause-pumps : goal.returns-in-Stays-clause-pumps
 returns-in-Stays-clause-pumps g c =
