@@ -90,6 +90,13 @@ module _ {S E : Type 0} (send : SendGhosts S E) (ring : EndGhosts E) where
         taken = paired.taken;
       }
 
+-- the event channels of samplers are as many as those
+pub in-order : {S : Type 0} (n : ℕ) (samplers : List (SamplerState S)) → channels_in samplers ≡ upto 0 n → channels_in samplers ≡ upto 0 (length samplers)
+in-order n samplers channels =
+    let many : n ≡ length samplers
+    = sym (length-upto 0 n) ∙ ap length (sym channels) ∙ length-map samplers (λ (x : SamplerState _). x.channel) in
+    channels ∙ ap (upto 0) many
+
 -- handing a sampler out leaves what all began as
 pub began-stays : {S E A : Type 0} (old new : LendingState S E) (result : Result (Option (SamplerState S)) A)
     → IfOk result (LendsNext old new) → OnErr result (new ≡ old) → new.began ≡ old.began

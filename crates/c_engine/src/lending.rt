@@ -1,5 +1,5 @@
 //! The samplers of an engine: handed out one by one, and collected once they are finished.
-ghost use Rattle.std.specs.Prelude.{◌≡◌, ◌+◌, ◌<◌, [], ◌∷◌, IfOk, IfSome, IsNone};
+ghost use Rattle.std.specs.Prelude.{◌≡◌, ◌+◌, ◌<◌, ◌∷◌, IfSome, IsNone};
 ghost use Rattle.std.specs.Prelude.{length, option_to_list, vec_capacity, vec_len};
 ghost use Rattle.sampler.specs.State.{SamplerState};
 ghost use Rattle.c_engine.specs.Ways.{IsEndOf};
@@ -58,21 +58,8 @@ impl<R: Ring> Lending<R> {
     ghost use Rattle.c_engine.specs.Lendings.{LendingState as LendingOf};
     ghost use Rattle.c_engine.specs.Lends.{Lends, LendsNext};
 
-    /// Of samplers that weren't handed out.
-    pub fn new(alloc: Global, samplers: Vec<Sampler<R::Send>>) -> Result<Lending<R>, AllocError>
-        ensures { IfOk result (λ lending. lending ≡ record {
-          began = samplers.items;
-          out = [];
-          samplers = samplers.items;
-          ends = [];
-        }) }
-    {
-        let (ways, ends) = two_with_room(alloc, samplers.len())?;
-        Ok(Lending::over(samplers, ways, ends))
-    }
-
     /// Of samplers that weren't handed out, with room for a way of each and what is left of it.
-    fn over(
+    pub fn over(
         mut samplers: Vec<Sampler<R::Send>>,
         ways: Vec<EngineWay<R::Send>>,
         ends: Vec<Left<R::Send>>,
@@ -165,21 +152,6 @@ impl<R: Ring> Lending<R> {
     {
         transmitter.after(self.ends.as_mut_slice())
     }
-}
-
-/// Two empty vectors, with room for so many elements each.
-fn two_with_room<A: Drop, B: Drop>(
-    alloc: Global,
-    capacity: usize,
-) -> Result<(Vec<A>, Vec<B>), AllocError>
-    ensures first { IfOk result (λ it. (it.0.items ≡ []) × (vec_len it.0 ≡ 0)
-        × (vec_capacity it.0 ≡ capacity)) }
-    ensures second { IfOk result (λ it. (it.1.items ≡ []) × (vec_len it.1 ≡ 0)
-        × (vec_capacity it.1 ≡ capacity)) }
-{
-    let first = Vec::with_capacity(alloc, capacity)?;
-    let second = Vec::with_capacity(alloc, capacity)?;
-    Ok((first, second))
 }
 
 /// What came back on the first of these ways, which then goes.

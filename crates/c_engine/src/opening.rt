@@ -1,6 +1,8 @@
 //! The opening of an engine, and its samplers.
 
-ghost use Rattle.std.specs.Prelude.{◌≡◌, IfErr, IfOk, None, Some, false, length, map};
+ghost use Rattle.std.specs.Prelude.{◌≡◌, ◌≤◌, [], IfErr, IfOk, None, Some, false, length, map};
+ghost use Rattle.std.specs.Prelude.{vec_capacity, vec_len};
+ghost use Rattle.xcp_base.specs.declared.limits.TheConstants.{MAX_LISTS as MOST_LISTS};
 ghost use Rattle.transmitter.specs.Sinks.{sink_transmitter};
 ghost use Rattle.daq_engine.specs.Configuration.{upto};
 ghost use Rattle.c_engine.specs.Engines.{IsOpened, IsRefused, OpensAs, OpensEngine, OpensOn};
@@ -17,7 +19,7 @@ use crate::lending::Lending;
 use crate::status::Status;
 use byte_ring::ByteRing;
 use channel_ring::{SampleRing, SendEnd, TakeEnd};
-use daq_engine::{OpenFault, Ring, open_over};
+use daq_engine::{ListReport, OpenFault, Ring, open_over};
 use daq_store::Store;
 use frame_writer::{FrameWriter, Out, SinkOut};
 use sampler::Sampler;
@@ -25,6 +27,24 @@ use std::alloc::{AllocError, Global};
 use transmitter::Transmitter;
 use xcp_base::RingKind;
 use xcp_base::limits::MAX_LISTS;
+
+/// Room for the ways and the ends of so many samplers, and for the lines of a report.
+fn room_for<W: Drop, E: Drop>(
+    alloc: Global,
+    samplers: usize,
+) -> Result<(Vec<W>, Vec<E>, Vec<ListReport>), AllocError>
+    ensures ways { IfOk result (λ it. (it.0.items ≡ []) × (vec_len it.0 ≡ 0)
+        × (vec_capacity it.0 ≡ samplers)) }
+    ensures ends { IfOk result (λ it. (it.1.items ≡ []) × (vec_len it.1 ≡ 0)
+        × (vec_capacity it.1 ≡ samplers)) }
+    ensures lines { IfOk result (λ it. (vec_len it.2 ≡ 0)
+        × (MOST_LISTS ≤ vec_capacity it.2)) }
+{
+    let ways = Vec::with_capacity(alloc, samplers)?;
+    let ends = Vec::with_capacity(alloc, samplers)?;
+    let lines = Vec::with_capacity(alloc, MAX_LISTS as usize)?;
+    Ok((ways, ends, lines))
+}
 
 /// An engine of what was opened.
 fn engine_of<R: Ring>(
@@ -42,8 +62,8 @@ fn engine_of<R: Ring>(
     ensures { IfOk result (λ engine. (engine.transmitter ≡ transmitter)
         × (samplers_in engine ≡ samplers.items) × (engine.lending.began ≡ samplers.items)) }
 {
-    let lines = Vec::with_capacity(alloc, MAX_LISTS as usize)?;
-    let lending = Lending::new(alloc, samplers)?;
+    let (ways, ends, lines) = room_for(alloc, samplers.len())?;
+    let lending = Lending::over(samplers, ways, ends);
     Ok(HeldEngine {
         transmitter,
         lending,

@@ -81,6 +81,13 @@ behind_numbers d h =
     let last = neither (dto_fault d) (texts_fault d) cto.1 in
     (more.0, memory.0, cto.0, last.0, last.1)
 
+-- its segments have no fault
+pub no_segments_fault : (d : Profile) → profile_fault d ≡ None → (f : SegmentFault) → segments_fault (length d.events.items) (segments_of d) ≡ Some f → ⊥
+no_segments_fault d h f is =
+    let none : memory_fault d ≡ None = (behind_numbers d h).1 in
+    let told : memory_fault d ≡ Some (fault.Segments f) = ap (option_map fault.Segments) is in
+    cc (none, told)
+
 -- no fault comes from no fault of the segments alone
 of_segments : (first : Option SegmentFault) → option_map fault.Segments first ≡ None → first ≡ None
 of_segments None h = refl

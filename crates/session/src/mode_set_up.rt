@@ -5,7 +5,7 @@ ghost use Rattle.session.specs.SetUps.{but_priority, mode_held};
 use daq_store::ListConf;
 
 /// The mode of a DAQ list, but for its priority.
-#[derive(Clone, Copy, Debug, PartialEq, Eq)]
+#[derive(Clone, Copy, PartialEq, Eq)]
 pub struct ModeSetUp {
     pub channel: u8,
     pub prescaler: u8,

@@ -1,6 +1,6 @@
 //! What UPLOAD reads.
 /// A text of the profile that UPLOAD reads.
-#[derive(Clone, Copy, Debug)]
+#[derive(Clone, Copy)]
 pub(crate) enum TextOf {
     /// The name of an event channel.
     Event(u16),
@@ -13,7 +13,7 @@ pub(crate) enum TextOf {
 }
 
 /// What UPLOAD reads next.
-#[derive(Clone, Copy, Debug)]
+#[derive(Clone, Copy)]
 pub(crate) enum Source {
     /// Nothing was named.
     Nothing,

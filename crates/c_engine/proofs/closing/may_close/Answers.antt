@@ -2,7 +2,10 @@ use mathlib.Core.List.{IsPrefix}
 use Rattle.std.proofs.Common.{◌≤◌, ◌∙◌, arith, ap, subst}
 use Rattle.std.proofs.lemmas.Grind.{common_steps}
 use Rattle.xcp_base.specs.declared.limits.TheConstants.{MAX_LISTS}
+use Rattle.transmitter.specs.Written.{transmission}
 use Rattle.c_engine.specs.States.{EngineState}
+use Rattle.c_engine.proofs.LendingLemmas.{out}
+use Rattle.c_engine.proofs.OpenedLemmas.{fits-same}
 use Rattle.c_engine.proofs.closing.may_close.Goals as goal
 
 -- the engine keeps all that it has
@@ -32,3 +35,18 @@ returns-clause-ok g c =
       c.collect.ensures.all c.if-not-collect.false,
       room,
     )
+
+-- it was opened with the same samplers
+pub invariant_of-engine : goal.invariant_of-engine
+invariant_of-engine g c =
+    let i = c.engine.invariant in
+    let fits = fits-same g.R.Send.SendEnd g.R.Send.End.RingEnd c.engine.inside.lending.began c.collect.new.self.began
+    (transmission out g.R.Take.TakeEnd c.engine.inside.transmitter) c.collect.ensures.began (i.0, i.1, i.2, i.5) in
+    (fits.0, fits.1, fits.2, i.3, i.4, fits.3)
+
+pub invariant_of-engine-2 : goal.invariant_of-engine-2
+invariant_of-engine-2 g c =
+    let i = c.engine.invariant in
+    let fits = fits-same g.R.Send.SendEnd g.R.Send.End.RingEnd c.engine.inside.lending.began c.collect.new.self.began
+    (transmission out g.R.Take.TakeEnd c.engine.inside.transmitter) c.collect.ensures.began (i.0, i.1, i.2, i.5) in
+    (fits.0, fits.1, fits.2, i.3, i.4, fits.3)

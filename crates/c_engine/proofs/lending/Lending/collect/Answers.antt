@@ -1,6 +1,7 @@
-use Rattle.std.proofs.Common.{[], ◌∷◌, ap, arith, reverse}
+use Rattle.std.proofs.Common.{◌≡◌, ◌++◌, List, [], ◌∷◌, ap, arith, reverse, subst}
 use Rattle.std.proofs.lemmas.Grind.{common_steps}
-use Rattle.c_engine.specs.Lendings.{LendingState}
+use Rattle.sampler.specs.State.{SamplerState}
+use Rattle.c_engine.specs.Lendings.{HaveComeOf, LendingState}
 use Rattle.c_engine.proofs.LendingLemmas.{came, prefix-more, prefix-same}
 use Rattle.c_engine.proofs.lending.Lending.collect.Goals as goal
 
@@ -32,3 +33,22 @@ loop-self-preserved g c =
           first.0 c.loop-self.self-inside.ways.items c.first_end.new.ways.items (reverse c.loop-self.self-inside.samplers.items) first.1 first.2
           c.loop-self.invariant.come);
     }
+
+-- what hasn't come back is out as before
+pub invariant_of-self : goal.invariant_of-self
+invariant_of-self g c =
+    let kept = c.loop-self.invariant in
+    let none = c.in_default.ensures in (
+      omega (arith, none.len, none.capacity),
+      omega (arith, none.len, none.capacity),
+      omega (arith, none.len, none.capacity),
+      rw none.none kept.come,
+    )
+
+-- nothing is out, and nothing wasn't handed out
+pub returns-clause-all : goal.returns-clause-all
+returns-clause-all g c all =
+    let lending = c.loop-self.self-inside in
+    let rest : lending.ways.items ++ reverse lending.samplers.items ≡ [] = grind (arith, common_steps) in
+    subst (λ (xs : List (SamplerState _)). HaveComeOf g.R.Send.SendEnd g.R.Send.End.RingEnd lending.began.value.items lending.ends.items xs)
+    rest c.loop-self.invariant.come
