@@ -1,7 +1,6 @@
-use Rattle.std.proofs.Common.{◌≡◌, ◌∷◌, [], arith, length-append, refl, rules}
+use Rattle.std.proofs.Common.{◌∷◌, [], arith, length-append, refl, rules}
 use Rattle.std.proofs.lemmas.List.Elements.{All-push}
 use Rattle.measured_values.specs.Tallies.{IsTally}
-use Rattle.measured_values.specs.declared.tally.Tally.{Tally}
 use Rattle.value_tables.proofs.value_tallies.no_tallies.Goals as goal
 
 -- there are none yet
