@@ -1,5 +1,6 @@
 //! The options of a COMPU_METHOD are read: its coefficients, or the name of its table.
 ghost use Rattle.std.specs.Prelude.{◌≡◌};
+ghost use Rattle.a2l_entries.specs.declared.keywords.MethodKeyword.TheVariants as option;
 ghost use Rattle.a2l_entries.specs.Gives.{Gives};
 ghost use Rattle.a2l_entries.specs.Said.{tokens_of};
 ghost use Rattle.a2l_entries.specs.MethodSaid.{method_options_seen, no_method_options};
@@ -98,31 +99,56 @@ fn option_of(
     ensures { Gives method_options_seen result (method_option_said keyword (tokens_of left.entry)) }
 {
     match keyword {
-        MethodKeyword::Coefficients => {
-            let coefficients = coefficients_in(left)?;
-            Ok(MethodOptions {
-                coefficients: Some(coefficients),
-                ..MethodOptions::none()
-            })
-        }
-        MethodKeyword::Linear => {
-            let (factor, left) = left.number()?;
-            let (offset, _) = left.number()?;
-            Ok(MethodOptions {
-                line: Some(Line { factor, offset }),
-                ..MethodOptions::none()
-            })
-        }
-        MethodKeyword::Table => {
-            let (word, _) = left.first(Awaited::Name)?;
-            let name = name_in(alloc, word)?;
-            Ok(MethodOptions {
-                table: Some(Reference { name, at: word.at }),
-                ..MethodOptions::none()
-            })
-        }
+        MethodKeyword::Coefficients => coefficients_option(left),
+        MethodKeyword::Linear => line_option(left),
+        MethodKeyword::Table => table_option(alloc, left),
         MethodKeyword::One | MethodKeyword::Other => Ok(MethodOptions::none()),
     }
+}
+
+/// What COEFFS says.
+#[tactic(auto, unfolding(crate::specs::MethodSaid::method_option_said))]
+fn coefficients_option(left: Left<'_, '_>) -> Result<MethodOptions, EntryFault>
+    ensures { Gives method_options_seen result
+        (method_option_said option.Coefficients (tokens_of left.entry)) }
+{
+    let coefficients = coefficients_in(left)?;
+    Ok(MethodOptions {
+        coefficients: Some(coefficients),
+        line: None,
+        table: None,
+    })
+}
+
+/// What COEFFS_LINEAR says.
+#[tactic(auto, unfolding(crate::specs::MethodSaid::method_option_said))]
+fn line_option(left: Left<'_, '_>) -> Result<MethodOptions, EntryFault>
+    ensures { Gives method_options_seen result
+        (method_option_said option.Linear (tokens_of left.entry)) }
+{
+    let (factor, left) = left.number()?;
+    let (offset, _) = left.number()?;
+    Ok(MethodOptions {
+        coefficients: None,
+        line: Some(Line { factor, offset }),
+        table: None,
+    })
+}
+
+/// What COMPU_TAB_REF says.
+#[tactic(auto, unfolding(crate::specs::MethodSaid::method_option_said))]
+fn table_option(alloc: Global, left: Left<'_, '_>) -> Result<MethodOptions, EntryFault>
+    ensures { Gives method_options_seen result
+        (method_option_said option.Table (tokens_of left.entry)) }
+{
+    let (word, _) = left.first(Awaited::Name)?;
+    let name = name_in(alloc, word)?;
+    let table = Reference { name, at: word.at };
+    Ok(MethodOptions {
+        coefficients: None,
+        line: None,
+        table: Some(table),
+    })
 }
 
 /// The coefficients that the first six words say, from `a` to `f`.

@@ -1,6 +1,9 @@
 -- The rows of values, sample by sample.
-use Rattle.std.proofs.Common.{◌≡◌, ℕ, List, [], ◌∷◌, ◌++◌, Option, Some, None, refl, sym, ap, subst, ◌∙◌, append-nil, append_assoc}
-use Rattle.std.specs.Prelude.{reverse, slice_get}
+use Rattle.std.proofs.Common.{◌≡◌, ℕ, List, [], ◌∷◌, ◌++◌, Option, Some, None, Result, Ok, Err, Bor, refl, sym, ap, subst, ◌∙◌, append-nil, append_assoc}
+use Rattle.std.proofs.lemmas.Bool.{false≢true}
+use Rattle.std.proofs.lemmas.Option.{get_or_from_slice_get, slice_get_within}
+use Rattle.std.specs.Option.{option_copied}
+use Rattle.std.specs.Prelude.{All, IfSome, IsOk, OnOk, reverse, slice_get}
 use Rattle.std.specs.Io.KnownBytes.{Appends, append_known}
 use Rattle.std.proofs.KnownBytes.{Appends-trans}
 use Rattle.csv.specs.Writing.{row_text, text_written, writer_pending, writer_under}
@@ -12,8 +15,10 @@ use Rattle.sample_tables.specs.Rows.{IsBetweenRows, rfc_4180}
 use Rattle.sample_tables.specs.Spots.{spot_of}
 use Rattle.sample_tables.specs.declared.spot.Spot.{Spot}
 use Rattle.sample_tables.proofs.RowLemmas.{begins, reverse-push}
+use Rattle.value_tables.specs.Lists.{HasSources}
 use Rattle.value_tables.specs.ValueRows.{AreRows, HasCsv, IsCsv, IsRowIn, heads}
 use Rattle.value_tables.specs.declared.column.Column.{Column}
+use Rattle.value_tables.specs.declared.list_columns.ListColumns.{ListColumns}
 
 -- the names of the columns alone
 pub heads_alone : {W : Type 0} (contents : W → Option (List ℕ)) (tick : Option Tick) (columns : List Column) (plans : List ListPlan) (out : W) (first named : Writer W)
@@ -64,3 +69,16 @@ row_more contents tick columns plans start samples place r at before now has sta
 pub none_left : {X : Type 0} (o : Option X) → ((x : X) → o ≡ Some x → ⊥) → o ≡ None
 none_left None h = refl
 none_left (Some x) h = absurd (h x refl)
+
+-- what a success promises
+pub succeeded : {T E : Type 0} (r : Result T E) (P : Type 0) → IsOk r → OnOk r P → P
+succeeded (Ok x) P ok promise = promise
+succeeded (Err e) P ok promise = absurd (false≢true ok)
+
+-- the list at a place, if there is one, knows its sources
+pub sources_at : (columns : List Column) (lists : List ListColumns) (place : ℕ) (list : Option (Bor ListColumns))
+    → option_copied list ≡ slice_get lists place → All (HasSources columns) lists → IfSome list (λ l. HasSources columns l.now)
+sources_at columns lists place None at all = tt
+sources_at columns lists place (Some l) at all =
+    subst (HasSources columns) (get_or_from_slice_get lists place l.now l.now (sym at))
+    (all place l.now (slice_get_within lists place l.now (sym at)))

@@ -1,10 +1,12 @@
 -- The elements of an array, one after another, and what stands in the places of measurements.
-use Rattle.std.proofs.Common.{◌≡◌, ℕ, Bool, ◌+◌, List, [], ◌∷◌, ◌++◌, sym, ap, ◌∙◌, add-one}
+use Rattle.std.proofs.Common.{◌≡◌, ℕ, Bool, true, ◌+◌, List, [], ◌∷◌, ◌++◌, sym, ap, ◌∙◌, add-one}
+use Rattle.std.proofs.Common.{Option, Some, refl}
 use Rattle.std.proofs.Common.{append-nil, append_assoc, map}
 use Rattle.std.proofs.lemmas.List.{flat_map_more, map_push}
 use Rattle.std.specs.List.{flat_map}
-use Rattle.a2l.specs.Elements.{element_address}
+use Rattle.a2l.specs.Elements.{element_address, element_at}
 use Rattle.a2l.specs.Resolved.{Value}
+use Rattle.measured_values.specs.Encodings.{size_of}
 use Rattle.value_tables.specs.Elements.{element_if, elements_below}
 
 -- before the first element there is none
@@ -33,3 +35,10 @@ pub one_value_more :
 one_value_more f seen base old new xs x step so_far =
     step ∙ ap (λ ys. ys ++ f (seen x)) so_far ∙ flat_map_more f base (map seen xs) (seen x)
     ∙ ap (λ zs. base ++ flat_map f zs) (sym (map_push seen xs x))
+
+-- what stands for an element that has an address and is there
+pub element_there :
+    (held : ℕ → ℕ → Bool) (v : Value) (k address : ℕ) (o : Option ℕ) → o ≡ Some address
+    → held address (size_of v.encoding.data_type) ≡ true
+    → element_if held v k o ≡ element_at v k address ∷ []
+element_there held v k address o at there = rw (at, there) refl

@@ -1,9 +1,9 @@
 -- Tallies of the values of columns, sample by sample.
 use Rattle.std.proofs.Common.{◌≡◌, ◌≢◌, ℕ, zero, suc, ◌+◌, ◌<◌, ◌⊎◌, ◌==◌, true, false, List, [], ◌∷◌, ◌++◌, length, slice_get, slice_set, get_or, take, drop, Option, Some, None, refl, sym, ap, subst, ◌∙◌, arith, inl, inr}
-use Rattle.std.specs.Prelude.{IfSome, option_map, reverse}
+use Rattle.std.specs.Prelude.{All, IfSome, option_map, reverse}
 use Rattle.std.proofs.lemmas.Bool.Decides.{eqb_tells}
 use Rattle.std.proofs.lemmas.List.{length-set}
-use Rattle.std.proofs.lemmas.Option.{slice_get-get_or, slice_get-map, slice_get_within}
+use Rattle.std.proofs.lemmas.Option.{get_or_from_slice_get, slice_get-get_or, slice_get-map, slice_get_within}
 use Rattle.std.proofs.Math.Seq.{take-append_seam}
 use Rattle.sample_tables.proofs.RowLemmas.{reverse-push}
 use Rattle.sample_tables.proofs.TallyLemmas.{get_same}
@@ -75,3 +75,8 @@ tally_there plans columns earlier tallies c (Some tally) is are = λ column at. 
 -- what was written through a slice is what stands there
 pub written_back : {X : Type 0} (n : ℕ) (new old : List X) → length new ≡ n → take n (new ++ drop (length new) old) ≡ new
 written_back n new old all = subst (λ k. take k (new ++ drop (length new) old) ≡ new) all (take-append_seam new (drop (length new) old))
+
+-- before the first sample a tally has no values
+pub none_tallied : (plans : List ListPlan) (columns : List Column) (tallies : List Tally) → All (λ t. IsTally t []) tallies → AreTallies plans columns [] tallies
+none_tallied plans columns tallies none i column tally of its =
+    subst (λ t. IsTally t []) (get_or_from_slice_get tallies i tally tally its) (none i tally (slice_get_within tallies i tally its))

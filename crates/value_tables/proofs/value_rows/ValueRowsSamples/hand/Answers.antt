@@ -7,7 +7,7 @@ use Rattle.copy_plan.specs.Config.{ListPlan}
 use Rattle.daq_reader.specs.Recorded.{Recorded}
 use Rattle.sample_tables.specs.Spots.{KnowsSpots}
 use Rattle.sample_tables.proofs.RowLemmas.{reverse-push}
-use Rattle.value_tables.proofs.CsvLemmas.{row_more}
+use Rattle.value_tables.proofs.CsvLemmas.{row_more, sources_at}
 use Rattle.value_tables.specs.Lists.{plans_of}
 use Rattle.value_tables.specs.declared.column.Column.{Column}
 use Rattle.value_tables.specs.declared.list_columns.ListColumns.{ListColumns}
@@ -40,3 +40,13 @@ invariant_of-self g c =
           (λ plan there. c.next-at.ensures.spot plans plan earlier r c.self.invariant.0 of there c.stamp.ensures) row (c.go_on-self-inside.ensures.between none) in
           subst (λ t. HasCsv contents t at.columns.items plans (contents at.start.value) (at.log.samples ++ (c.args.place, r) ∷ []) c.go_on-self-inside.new.rows.rows) (sym c.go_on-self-inside.ensures.tick) more,
     )
+
+-- nothing failed yet, so the writer is between two rows
+pub go_on-self-inside-requires-clause-between : goal.go_on-self-inside-requires-clause-between
+go_on-self-inside-requires-clause-between g c = λ none. (c.self.invariant.2 none).between
+
+-- the list at the place knows its sources
+pub go_on-self-inside-requires-clause-sources : goal.go_on-self-inside-requires-clause-sources
+go_on-self-inside-requires-clause-sources g c =
+    let at = c.list_at-list.ensures ∙ ap (λ ls. slice_get ls c.args.place) c.deref.ensures.value in
+    rw c.deref-2.ensures.value (sources_at c.self.inside.columns.items c.self.inside.lists.items c.args.place c.list_at-list.result at c.self.invariant.1)
