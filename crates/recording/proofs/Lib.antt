@@ -2,6 +2,7 @@ mod ByNameLemmas
 pub mod FileLemmas
 pub mod MeasuredLemmas
 pub mod FrontLemmas
+pub mod BreakLemmas
 pub mod PassLemmas
 pub mod PieceLemmas
 pub mod RunFileLemmas
