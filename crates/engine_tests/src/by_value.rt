@@ -1,5 +1,5 @@
 //! A sampler over a ring of any kind, of a store whose samples find room in a value of fixed size.
-ghost use Rattle.std.specs.Prelude.{◌≡◌, [], IfOk};
+ghost use Rattle.std.specs.Prelude.{◌≡◌, []};
 ghost use Rattle.sampler.specs.History.{Opening};
 ghost use Rattle.daq_engine.specs.Opened.{IsSamplerAt};
 
@@ -8,23 +8,26 @@ use daq_engine::{plans_of, sampler_over};
 use daq_store::Store;
 use sampler::Sampler;
 use std::alloc::Global;
-use std::test::Fail;
+use std::process::Abort;
 use xcp_base::ChannelId;
 
 /// The sampler of an event channel of a store, over a send end through which nothing was sent.
 pub fn sampler_by_value<S: SendEnd + Drop>(
+    rt: &impl Abort,
     alloc: Global,
     store: &Store,
     c: ChannelId,
     end: S,
-) -> Result<Sampler<S>, Fail>
+) -> Sampler<S>
     requires nothing_sent { S.sent end ≡ [] }
-    ensures sampler { IfOk result (λ sampler. (opening : Opening)
-        × IsSamplerAt S.SendEnd S.End.RingEnd store.now c end sampler opening) }
+    ensures sampler { (opening : Opening)
+        × IsSamplerAt S.SendEnd S.End.RingEnd store.now c end result opening }
 {
-    let plans = plans_of(alloc, store, c)?;
+    let Ok(plans) = plans_of(alloc, store, c) else {
+        panic!(rt; "memory");
+    };
     if !store.is_by_value() {
-        return Err(Fail::from("samples that need more room"));
+        panic!(rt; "samples that need more room");
     }
-    Ok(sampler_over(store, c, plans, end))
+    sampler_over(store, c, plans, end)
 }

@@ -5,7 +5,6 @@ use frame_page::FramePage;
 use frame_ring::{FrameSend, FrameTake, Front, Head};
 use sampler::Sampler;
 use std::process::Abort;
-use std::test::Fail;
 
 /// The image of each trigger.
 const IMAGE: [u8; 4] = [0xAA, 0xBB, 0xCC, 0xDD];
@@ -65,10 +64,10 @@ fn a_page_fills(
     sampler: &mut Sampler<FrameSend>,
     take: &mut FrameTake,
     page: &mut FramePage<u8>,
-) -> Result<(), Fail> {
-    let _ = sampler.trigger(&IMAGE, 5)?;
+) {
+    let _ = sampler.trigger(&IMAGE, 5).expect(rt, "a trigger");
     let first = take_into(page, take);
-    let _ = sampler.trigger(&IMAGE, 6)?;
+    let _ = sampler.trigger(&IMAGE, 6).expect(rt, "a trigger");
     let rest = (reply_into(page), take_into(page, take), page.free());
     same(
         rt,
@@ -77,7 +76,6 @@ fn a_page_fills(
         ROW,
         "a sample of five blocks, a reply of one, a sample",
     );
-    Ok(())
 }
 
 /// The frames of the sample and of the reply go out in two datagrams.
@@ -105,11 +103,11 @@ fn a_discarded_sample_counts_nowhere(
     sampler: &mut Sampler<FrameSend>,
     take: &mut FrameTake,
     page: &mut FramePage<u8>,
-) -> Result<(), Fail> {
+) {
     let freed = (page.free(), take_into(page, take));
     same(rt, freed, (10, true), ROW, "room behind what was sent");
     page.discard();
-    let _ = sampler.trigger(&IMAGE, 7)?;
+    let _ = sampler.trigger(&IMAGE, 7).expect(rt, "a trigger");
     let taken = take_into(page, take);
     same(rt, taken, true, ROW, "a sample behind what was discarded");
     frames_go(
@@ -121,7 +119,6 @@ fn a_discarded_sample_counts_nowhere(
         ],
         "its frames, with the CTR behind what was sent",
     );
-    Ok(())
 }
 
 /// Two samples and a reply go through a page, and a third sample behind one that is discarded.
@@ -130,15 +127,15 @@ fn samples_go_through(
     sampler: &mut Sampler<FrameSend>,
     take: &mut FrameTake,
     page: &mut FramePage<u8>,
-) -> Result<(), Fail> {
-    a_page_fills(rt, sampler, take, page)?;
+) {
+    a_page_fills(rt, sampler, take, page);
     frames_go_in_two(rt, page);
-    a_discarded_sample_counts_nowhere(rt, sampler, take, page)
+    a_discarded_sample_counts_nowhere(rt, sampler, take, page);
 }
 
 #[test]
-fn a_sample_goes_out_in_several_datagrams(rt: HostRuntime) -> Result<(), Fail> {
-    let mut page = FramePage::new(rt.alloc(), 10, 3)?;
-    let (mut sampler, mut take) = sampled_frames(rt.alloc())?;
-    samples_go_through(&rt, &mut sampler, &mut take, &mut page)
+fn a_sample_goes_out_in_several_datagrams(rt: HostRuntime) {
+    let mut page = FramePage::new(rt.alloc(), 10, 3).expect(&rt, "memory");
+    let (mut sampler, mut take) = sampled_frames(&rt, rt.alloc());
+    samples_go_through(&rt, &mut sampler, &mut take, &mut page);
 }

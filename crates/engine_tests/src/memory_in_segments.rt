@@ -2,7 +2,6 @@
 use crate::same::same;
 use segments::{ReadFault, Segment, SegmentFault, Segments};
 use std::process::Abort;
-use std::test::Fail;
 
 /// A segment that these event channels may read.
 fn segment(extension: u8, base: u32, len: usize, events: u16) -> Segment {
@@ -122,8 +121,8 @@ fn are_read(rt: &impl Abort, segments: &Segments, memory: &[&[u8]], reads: &[Rea
 }
 
 #[test]
-fn bytes_are_read_of_the_segment_that_they_lie_in(rt: HostRuntime) -> Result<(), Fail> {
-    let segments = Segments::new(&apart(), 1)?;
+fn bytes_are_read_of_the_segment_that_they_lie_in(rt: HostRuntime) {
+    let segments = Segments::new(&apart(), 1).expect(&rt, "segments");
     let memory: [&[u8]; 3] = [&LOW, &NOT_READ, &OTHER];
     are_read(&rt, &segments, &memory, OF_APART);
     let without: [&[u8]; 3] = [&LOW, &[], &OTHER];
@@ -143,12 +142,11 @@ fn bytes_are_read_of_the_segment_that_they_lie_in(rt: HostRuntime) -> Result<(),
         "too few slices",
         "what is read",
     );
-    Ok(())
 }
 
 #[test]
-fn segments_that_touch_are_two(rt: HostRuntime) -> Result<(), Fail> {
-    let segments = Segments::new(&touching(), 1)?;
+fn segments_that_touch_are_two(rt: HostRuntime) {
+    let segments = Segments::new(&touching(), 1).expect(&rt, "segments");
     let memory: [&[u8]; 6] = [
         &[0x77],
         &[0x10, 0x11],
@@ -158,59 +156,35 @@ fn segments_that_touch_are_two(rt: HostRuntime) -> Result<(), Fail> {
         &[0xB1, 0xB2, 0xB3, 0xB4],
     ];
     are_read(&rt, &segments, &memory, OF_TOUCHING);
-    Ok(())
+}
+
+/// Memory that a segment has, what of it is asked for by event channel 0, and whether it may read
+/// that.
+const READABLE: [(&str, u8, usize, usize, bool); 3] = [
+    ("its own", 0, 0x1000, 2, true),
+    ("another extension", 1, 2, 2, true),
+    ("another's", 0, 0x2000, 1, false),
+];
+
+#[test]
+fn an_event_channel_reads_its_own_segments(rt: HostRuntime) {
+    let segments = Segments::new(&apart(), 1).expect(&rt, "segments");
+    for (row, extension, address, size, wanted) in READABLE {
+        let is_readable = segments.is_readable(0, extension, address, size);
+        same(&rt, is_readable, wanted, row, "is readable");
+    }
+    let memories: [(&str, &[&[u8]], bool); 3] = [
+        ("what it reads", &[&LOW, &[], &OTHER], true),
+        ("one too short", &[&LOW, &NOT_READ, &[]], false),
+        ("a slice too few", &[&LOW, &NOT_READ], false),
+    ];
+    for (row, memory, wanted) in memories {
+        same(&rt, segments.fits(0, memory), wanted, row, "fits");
+    }
 }
 
 #[test]
-fn an_event_channel_reads_its_own_segments(rt: HostRuntime) -> Result<(), Fail> {
-    let segments = Segments::new(&apart(), 1)?;
-    same(
-        &rt,
-        segments.is_readable(0, 0, 0x1000, 2),
-        true,
-        "its own",
-        "is readable",
-    );
-    same(
-        &rt,
-        segments.is_readable(0, 1, 2, 2),
-        true,
-        "another extension",
-        "is readable",
-    );
-    same(
-        &rt,
-        segments.is_readable(0, 0, 0x2000, 1),
-        false,
-        "another's",
-        "is readable",
-    );
-    same(
-        &rt,
-        segments.fits(0, &[&LOW, &[], &OTHER]),
-        true,
-        "what it reads",
-        "fits",
-    );
-    same(
-        &rt,
-        segments.fits(0, &[&LOW, &NOT_READ, &[]]),
-        false,
-        "one too short",
-        "fits",
-    );
-    same(
-        &rt,
-        segments.fits(0, &[&LOW, &NOT_READ]),
-        false,
-        "a slice too few",
-        "fits",
-    );
-    Ok(())
-}
-
-#[test]
-fn segments_out_of_a_limit_are_refused(rt: HostRuntime) -> Result<(), Fail> {
+fn segments_out_of_a_limit_are_refused(rt: HostRuntime) {
     let first = segment(0, 0x1000, 16, 1);
     let pairs = [
         ("no byte", segment(0, 0x1010, 0, 1), SegmentFault::Len(1)),
@@ -241,14 +215,9 @@ fn segments_out_of_a_limit_are_refused(rt: HostRuntime) -> Result<(), Fail> {
         ),
     ];
     for (row, second, fault) in pairs {
-        match Segments::new(&[first, second], 1) {
-            Ok(_) => same(&rt, true, false, row, "it is refused"),
-            Err(refused) => same(&rt, refused, fault, row, "the fault"),
-        }
+        let refused = Segments::new(&[first, second], 1).err();
+        same(&rt, refused, Some(fault), row, "the fault");
     }
-    let Err(fault) = Segments::new(&[], 1) else {
-        return Err(Fail::from("no segments are refused"));
-    };
-    same(&rt, fault, SegmentFault::Number, "none", "the fault");
-    Ok(())
+    let fault = Segments::new(&[], 1).err();
+    same(&rt, fault, Some(SegmentFault::Number), "none", "the fault");
 }

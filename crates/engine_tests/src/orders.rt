@@ -9,7 +9,6 @@ use frame_writer::{FrameWriter, VecOut};
 use sampler::{Polled, Sampler};
 use std::alloc::Global;
 use std::process::Abort;
-use std::test::Fail;
 use transmitter::Transmitter;
 
 /// A stop of the list that runs.
@@ -20,15 +19,16 @@ const START: Order = Order::Start(9);
 
 /// The sampler of a list that runs, whose ring has one place, and its transmitter.
 fn sampler_of(
+    rt: &impl Abort,
     alloc: Global,
-) -> Result<(Sampler<SendHalf>, Transmitter<VecOut<Global>, TakeHalf>), Fail> {
-    let store = one_list(alloc)?;
+) -> (Sampler<SendHalf>, Transmitter<VecOut<Global>, TakeHalf>) {
+    let store = one_list(rt, alloc);
     let writer = FrameWriter::new(VecOut::new(alloc));
     let Ok((mut samplers, transmitter)) = open(alloc, &store, &[1], writer) else {
-        return Err(Fail::from("not opened"));
+        panic!(rt; "not opened");
     };
-    let sampler = samplers.pop().ok_or("no sampler")?;
-    Ok((sampler, transmitter))
+    let sampler = samplers.pop().expect(rt, "a sampler");
+    (sampler, transmitter)
 }
 
 /// A stop that finds no room in a full ring waits, and an order behind it finds no place.
@@ -73,12 +73,12 @@ fn a_stop_goes_on(
 }
 
 /// An order that was sent before the send end is finished is left to the take end.
-fn an_order_is_left(rt: &impl Abort, send: ControlSend, take: &mut ControlTake) -> Result<(), Fail>
+fn an_order_is_left(rt: &impl Abort, send: ControlSend, take: &mut ControlTake)
     requires one_ring { send.ring ≡ take.old.ring }
 {
     let mut send = send;
     let left = send.send(STOP);
-    let mut ended = send.finish().ok_or("an end that isn't finished")?;
+    let mut ended = send.finish().expect(rt, "a finished end");
     let shown = (left, take.after(&mut ended), take.front());
     same(
         rt,
@@ -87,7 +87,6 @@ fn an_order_is_left(rt: &impl Abort, send: ControlSend, take: &mut ControlTake) 
         "at the end",
         "what is left",
     );
-    Ok(())
 }
 
 /// Sends a stop of the list and a start of none through a control ring of one place.
@@ -96,16 +95,16 @@ fn orders_wait_for_room(
     alloc: Global,
     sampler: &mut Sampler<SendHalf>,
     transmitter: &mut Transmitter<VecOut<Global>, TakeHalf>,
-) -> Result<(), Fail> {
-    let (mut send, mut take) = ControlRing::new(alloc, 1)?;
+) {
+    let (mut send, mut take) = ControlRing::new(alloc, 1).expect(rt, "a ring");
     a_stop_waits(rt, sampler, &mut send, &mut take);
     let _ = transmitter.pump();
     a_stop_goes_on(rt, sampler, &mut send, &mut take);
-    an_order_is_left(rt, send, &mut take)
+    an_order_is_left(rt, send, &mut take);
 }
 
 #[test]
-fn a_stop_waits_for_room_and_an_order_behind_it_for_a_place(rt: HostRuntime) -> Result<(), Fail> {
-    let (mut sampler, mut transmitter) = sampler_of(rt.alloc())?;
-    orders_wait_for_room(&rt, rt.alloc(), &mut sampler, &mut transmitter)
+fn a_stop_waits_for_room_and_an_order_behind_it_for_a_place(rt: HostRuntime) {
+    let (mut sampler, mut transmitter) = sampler_of(&rt, rt.alloc());
+    orders_wait_for_room(&rt, rt.alloc(), &mut sampler, &mut transmitter);
 }

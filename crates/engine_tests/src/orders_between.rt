@@ -1,5 +1,5 @@
 //! Orders through a control ring, from another thread than the sampler's.
-ghost use Rattle.std.specs.Prelude.{◌≡◌, [], ◌∷◌, IfOk, IfSome, Some};
+ghost use Rattle.std.specs.Prelude.{◌≡◌, [], ◌∷◌, IfSome, Some};
 ghost use Rattle.transmitter.specs.Written.{transmission};
 
 use crate::same::same;
@@ -15,7 +15,6 @@ use frame_writer::{FrameWriter, Out, VecOut};
 use sampler::{Polled, Sampler, SamplerEnd};
 use std::alloc::Global;
 use std::process::Abort;
-use std::test::Fail;
 use std::thread::{self, Threads};
 use transmitter::Transmitter;
 
@@ -123,19 +122,21 @@ where
 
 /// Drains the ring of one sampler, and closes its engine.
 fn close_one<T: ItemTake>(
+    rt: &impl Abort,
     alloc: Global,
     transmitter: Transmitter<VecOut<Global>, T>,
     end: SamplerEnd<T::End>,
-) -> Result<Report, Fail>
+) -> Report
     requires rings { (transmission ⟦<VecOut<Global> as Out>⟧ T.TakeEnd transmitter).rings
         ≡ T.End.ring end.end ∷ [] }
 {
     let mut transmitter = transmitter;
     let mut ends = Vec::new(alloc);
-    ends.push(end)?;
-    transmitter.drain(ends.as_mut_slice())?;
-    let (report, _out) = closed(close(alloc, transmitter, ends))?;
-    Ok(report)
+    ends.push(end).expect(rt, "memory");
+    let drained = transmitter.drain(ends.as_mut_slice());
+    drained.expect(rt, "a drained ring");
+    let (report, _out) = closed(rt, close(alloc, transmitter, ends));
+    report
 }
 
 /// The orders that were answered, and behind them those that are left.
@@ -161,15 +162,14 @@ fn account_adds_up<T: ItemTake>(
     transmitter: Transmitter<VecOut<Global>, T>,
     end: SamplerEnd<T::End>,
     row: &str,
-) -> Result<(), Fail>
+)
     requires rings { (transmission ⟦<VecOut<Global> as Out>⟧ T.TakeEnd transmitter).rings
         ≡ T.End.ring end.end ∷ [] }
 {
-    let report = close_one(alloc, transmitter, end)?;
-    let line = report.lists.first().copied().ok_or("no line")?;
+    let report = close_one(rt, alloc, transmitter, end);
+    let line = report.lists.first().copied().expect(rt, "a line");
     let all = line.written.saturating_add(line.dropped);
     same(rt, (all, line.left), (line.due, 0), row, "the account");
-    Ok(())
 }
 
 /// Compares the orders that were answered and left with those that were sent. The first order is
@@ -197,7 +197,7 @@ fn settle<T: ItemTake>(
     sampled: (SamplerEnd<T::End>, ControlTake, Vec<Order>),
     ordered: (ControlEnded, Transmitter<VecOut<Global>, T>, Vec<Order>),
     row: &str,
-) -> Result<(), Fail>
+)
     requires one_ring { ordered.0.ring ≡ sampled.1.ring }
     requires rings { (transmission ⟦<VecOut<Global> as Out>⟧ T.TakeEnd ordered.1).rings
         ≡ T.End.ring sampled.0.end ∷ [] }
@@ -205,16 +205,16 @@ fn settle<T: ItemTake>(
     let (end, take, answered) = sampled;
     let (ended, transmitter, sent) = ordered;
     orders_are(rt, (take, answered), ended, sent.as_slice(), row);
-    account_adds_up(rt, alloc, transmitter, end, row)
+    account_adds_up(rt, alloc, transmitter, end, row);
 }
 
 /// The orders that were sent and those that were answered: the first one and none, each with room
 /// for all that follow.
-fn rooms(alloc: Global, first: Order) -> Result<(Vec<Order>, Vec<Order>), Fail> {
-    let answered = Vec::with_capacity(alloc, TRIES)?;
-    let mut sent = Vec::with_capacity(alloc, TRIES)?;
-    sent.push(first)?;
-    Ok((sent, answered))
+fn rooms(rt: &impl Abort, alloc: Global, first: Order) -> (Vec<Order>, Vec<Order>) {
+    let answered = Vec::with_capacity(alloc, TRIES).expect(rt, "memory");
+    let mut sent = Vec::with_capacity(alloc, TRIES).expect(rt, "memory");
+    sent.push(first).expect(rt, "memory");
+    (sent, answered)
 }
 
 /// A control ring of four places in which a stop waits: its send end with the orders that were
@@ -223,42 +223,38 @@ fn first_order(
     rt: &impl Abort,
     alloc: Global,
     row: &str,
-) -> Result<((ControlSend, Vec<Order>), (ControlTake, Vec<Order>)), Fail>
-    ensures { IfOk result (λ r. r.0.0.ring ≡ r.1.0.ring) }
+) -> ((ControlSend, Vec<Order>), (ControlTake, Vec<Order>))
+    ensures { result.0.0.ring ≡ result.1.0.ring }
 {
     let stop = Order::Stop(0);
-    let (sent, answered) = rooms(alloc, stop)?;
-    let (mut send, take) = ControlRing::new(alloc, 4)?;
+    let (sent, answered) = rooms(rt, alloc, stop);
+    let (mut send, take) = ControlRing::new(alloc, 4).expect(rt, "a ring");
     same(rt, send.send(stop), Ok(()), row, "the first order");
-    Ok(((send, sent), (take, answered)))
+    ((send, sent), (take, answered))
 }
 
 /// What came back of a sampler's thread, if the sampler is finished.
 fn finished<E: RingEnd>(
+    rt: &impl Abort,
     sampled: Sampled<E>,
-) -> Result<(SamplerEnd<E>, ControlTake, Vec<Order>), Fail>
-    ensures end { IfOk result (λ r. sampled.0 ≡ Some r.0) }
-    ensures take { IfOk result (λ r. r.1 ≡ sampled.1) }
+) -> (SamplerEnd<E>, ControlTake, Vec<Order>)
+    ensures end { sampled.0 ≡ Some result.0 }
+    ensures take { result.1 ≡ sampled.1 }
 {
     let (end, take, answered) = sampled;
-    match end {
-        Some(end) => Ok((end, take, answered)),
-        None => Err(Fail::from("a sampler that isn't finished")),
-    }
+    (end.expect(rt, "a finished sampler"), take, answered)
 }
 
 /// What came back of a master's, if its end of the control ring is finished.
 fn ended<T: ItemTake>(
+    rt: &impl Abort,
     ordered: Ordered<T>,
-) -> Result<(ControlEnded, Transmitter<VecOut<Global>, T>, Vec<Order>), Fail>
-    ensures end { IfOk result (λ r. ordered.0 ≡ Some r.0) }
-    ensures transmitter { IfOk result (λ r. r.1 ≡ ordered.1) }
+) -> (ControlEnded, Transmitter<VecOut<Global>, T>, Vec<Order>)
+    ensures end { ordered.0 ≡ Some result.0 }
+    ensures transmitter { result.1 ≡ ordered.1 }
 {
     let (end, transmitter, sent) = ordered;
-    match end {
-        Some(end) => Ok((end, transmitter, sent)),
-        None => Err(Fail::from("an end that isn't finished")),
-    }
+    (end.expect(rt, "a finished end"), transmitter, sent)
 }
 
 /// Runs a sampler in a thread of its own, and a master's orders beside it, through a control ring
@@ -269,7 +265,7 @@ fn orders_come_through<R, S, T>(
     sampler: Sampler<S>,
     transmitter: Transmitter<VecOut<Global>, T>,
     row: &str,
-) -> Result<(), Fail>
+)
 where
     R: Threads + Abort,
     S: SendEnd + Send,
@@ -278,40 +274,40 @@ where
     requires rings { (transmission ⟦<VecOut<Global> as Out>⟧ T.TakeEnd transmitter).rings
         ≡ S.ring sampler.end ∷ [] }
 {
-    let ((send, sent), (take, answered)) = first_order(rt, alloc, row)?;
+    let ((send, sent), (take, answered)) = first_order(rt, alloc, row);
     let sampling = (sampler, take, answered);
     let ordering = (send, transmitter, sent);
     let (sampled, ordered) = sample_beside(rt, sampling, ordering);
-    settle(rt, alloc, finished(sampled)?, ended(ordered)?, row)
+    settle(rt, alloc, finished(rt, sampled), ended(rt, ordered), row);
 }
 
 /// The sampler of a store of one event channel, and the transmitter of its ring, which has `cap`
 /// units.
 fn one_of<K: Ring>(
+    rt: &impl Abort,
     alloc: Global,
     cap: usize,
-) -> Result<(Sampler<K::Send>, Transmitter<VecOut<Global>, K::Take>), Fail>
-    ensures rings { IfOk result (λ r.
-        (transmission ⟦<VecOut<Global> as Out>⟧ K.Take.TakeEnd r.1).rings
-        ≡ K.Send.ring r.0.end ∷ []) }
+) -> (Sampler<K::Send>, Transmitter<VecOut<Global>, K::Take>)
+    ensures rings { (transmission ⟦<VecOut<Global> as Out>⟧ K.Take.TakeEnd result.1).rings
+        ≡ K.Send.ring result.0.end ∷ [] }
 {
-    let store = one_list(alloc)?;
+    let store = one_list(rt, alloc);
     let writer = FrameWriter::new(VecOut::new(alloc));
     let opened = open_over::<K, VecOut<Global>>(alloc, &store, &[cap], writer);
     let Ok((mut samplers, transmitter)) = opened else {
-        return Err(Fail::from("not opened"));
+        panic!(rt; "not opened");
     };
     if samplers.len() != 1 {
-        return Err(Fail::from("other than one sampler"));
+        panic!(rt; "other than one sampler");
     }
-    let sampler = samplers.pop().ok_or("no sampler")?;
-    Ok((sampler, transmitter))
+    let sampler = samplers.pop().expect(rt, "a sampler");
+    (sampler, transmitter)
 }
 
 #[test]
-fn the_orders_of_a_master_come_through(rt: HostRuntime) -> Result<(), Fail> {
-    let (sampler, transmitter) = one_of::<SampleRing>(rt.alloc(), 4)?;
-    orders_come_through(&rt, rt.alloc(), sampler, transmitter, "4 places")?;
-    let (sampler, transmitter) = one_of::<ByteRing>(rt.alloc(), 532)?;
-    orders_come_through(&rt, rt.alloc(), sampler, transmitter, "532 bytes")
+fn the_orders_of_a_master_come_through(rt: HostRuntime) {
+    let (sampler, transmitter) = one_of::<SampleRing>(&rt, rt.alloc(), 4);
+    orders_come_through(&rt, rt.alloc(), sampler, transmitter, "4 places");
+    let (sampler, transmitter) = one_of::<ByteRing>(&rt, rt.alloc(), 532);
+    orders_come_through(&rt, rt.alloc(), sampler, transmitter, "532 bytes");
 }

@@ -4,7 +4,6 @@ ghost use Rattle.xcp_base.specs.Copied.{IsSpanAt};
 
 use crate::same::same;
 use std::process::Abort;
-use std::test::Fail;
 use xcp_base::{MemoryView, Stretch, put_copied};
 
 /// A segment that begins at 100 in an image of all memory.
@@ -98,9 +97,9 @@ fn are_inside(offsets: &[u32], size: usize) -> bool
 
 /// Copies what spans of this size copy of the segment behind two bytes: where it ends, and the
 /// bytes.
-fn copied(offsets: &[u32], size: usize) -> Result<(usize, [u8; 48]), Fail> {
+fn copied(rt: &impl Abort, offsets: &[u32], size: usize) -> (usize, [u8; 48]) {
     if !are_inside(offsets, size) {
-        return Err(Fail::from("spans outside"));
+        panic!(rt; "spans outside");
     }
     let stretch = Stretch {
         segment: 0,
@@ -111,25 +110,17 @@ fn copied(offsets: &[u32], size: usize) -> Result<(usize, [u8; 48]), Fail> {
     let mut cells = [0xFF; 48];
     let memory = MemoryView::Parts(&[&SEGMENT]);
     let end = put_copied(&mut cells, 2, memory, offsets, &[stretch]);
-    Ok((end, cells))
+    (end, cells)
 }
 
 /// Compares what spans copy, and where it ends.
-fn copies(
-    rt: &impl Abort,
-    row: &str,
-    offsets: &[u32],
-    size: usize,
-    end: usize,
-    bytes: [u8; 48],
-) -> Result<(), Fail> {
-    let shown = copied(offsets, size)?;
+fn copies(rt: &impl Abort, row: &str, offsets: &[u32], size: usize, end: usize, bytes: [u8; 48]) {
+    let shown = copied(rt, offsets, size);
     same(rt, shown, (end, bytes), row, "end, bytes");
-    Ok(())
 }
 
 #[test]
-fn spans_are_copied_by_fours_and_the_rest_behind_them(rt: HostRuntime) -> Result<(), Fail> {
+fn spans_are_copied_by_fours_and_the_rest_behind_them(rt: HostRuntime) {
     let rows: [(&str, &[u32], usize, usize, [u8; 48]); 8] = [
         ("1 of 4 bytes", &OF_FOUR[..1], 4, 6, ONE_OF_FOUR),
         ("3 of 4 bytes", &OF_FOUR[..3], 4, 14, THREE_OF_FOUR),
@@ -141,7 +132,6 @@ fn spans_are_copied_by_fours_and_the_rest_behind_them(rt: HostRuntime) -> Result
         ("5 of 8 bytes", &OF_EIGHT, 8, 42, FIVE_OF_EIGHT),
     ];
     for (row, offsets, size, end, bytes) in rows {
-        copies(&rt, row, offsets, size, end, bytes)?;
+        copies(&rt, row, offsets, size, end, bytes);
     }
-    Ok(())
 }

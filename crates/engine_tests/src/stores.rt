@@ -1,7 +1,8 @@
 //! Stores whose DAQ lists run: each is set up by command packets.
+use crate::same::same;
 use daq_store::{Reply, Store, command};
 use std::alloc::Global;
-use std::test::Fail;
+use std::process::Abort;
 
 /// A list of event channel 0 that runs, and has the two bytes of the image.
 const WHOLE: &[&[u8]] = &[
@@ -46,50 +47,41 @@ const OF_TWO_ODTS: &[&[u8]] = &[
 ];
 
 /// Carries a command packet out.
-fn carry(store: &mut Store, packet: &[u8]) -> Result<(), Fail> {
-    let Ok(command) = command::read(packet) else {
-        return Err(Fail::from("no command"));
-    };
-    match command::carry_out(store, command) {
-        Ok(Reply::Error(_)) => Err(Fail::from("a command that is refused")),
-        Ok(_) => Ok(()),
-        Err(_) => Err(Fail::from("out of memory")),
-    }
-}
-
-/// Carries command packets out, one behind another.
-fn carry_all(store: &mut Store, packets: &[&[u8]]) -> Result<(), Fail> {
-    for packet in packets {
-        carry(store, packet)?;
-    }
-    Ok(())
+fn carry(rt: &impl Abort, store: &mut Store, packet: &[u8]) {
+    let command = command::read(packet).expect(rt, "a command");
+    let reply = command::carry_out(store, command).expect(rt, "memory");
+    let is_refused = matches!(reply, Reply::Error(_));
+    same(rt, is_refused, false, "a command", "whether it is refused");
 }
 
 /// A store for which these packets were carried out.
 fn store_of(
+    rt: &impl Abort,
     alloc: Global,
     channels: u16,
     image_len: usize,
     packets: &[&[u8]],
-) -> Result<Store, Fail> {
-    let mut store = Store::new(alloc, channels, image_len)?;
-    carry_all(&mut store, packets)?;
-    Ok(store)
+) -> Store {
+    let mut store = Store::new(alloc, channels, image_len).expect(rt, "a store");
+    for packet in packets {
+        carry(rt, &mut store, packet);
+    }
+    store
 }
 
 /// A store of two event channels, for images of two bytes, in which list `c` of each event channel
 /// `c` runs and has the whole image.
-pub fn two_lists(alloc: Global) -> Result<Store, Fail> {
-    store_of(alloc, 2, 2, OF_TWO)
+pub fn two_lists(rt: &impl Abort, alloc: Global) -> Store {
+    store_of(rt, alloc, 2, 2, OF_TWO)
 }
 
 /// The same with one event channel and its list.
-pub fn one_list(alloc: Global) -> Result<Store, Fail> {
-    store_of(alloc, 1, 2, WHOLE)
+pub fn one_list(rt: &impl Abort, alloc: Global) -> Store {
+    store_of(rt, alloc, 1, 2, WHOLE)
 }
 
 /// A store of one event channel, for images of four bytes, whose list has two ODTs: two bytes
 /// each, and a timestamp before the first.
-pub fn two_odts(alloc: Global) -> Result<Store, Fail> {
-    store_of(alloc, 1, 4, OF_TWO_ODTS)
+pub fn two_odts(rt: &impl Abort, alloc: Global) -> Store {
+    store_of(rt, alloc, 1, 4, OF_TWO_ODTS)
 }

@@ -1,12 +1,12 @@
 //! The texts of refusals that no program prints.
 use crate::same::same;
 use daq_store::{BadLimits, Refusal};
-use std::test::Fail;
 use xcp_base::ErrCode;
 
 #[test]
-fn a_refusal_says_why(rt: HostRuntime) -> Result<(), Fail> {
-    let refused = format!(in rt.alloc(); "{}", Refusal::Code(ErrCode::DaqActive))?;
+fn a_refusal_says_why(rt: HostRuntime) {
+    let refused = format!(in rt.alloc(); "{}", Refusal::Code(ErrCode::DaqActive));
+    let refused = refused.expect(&rt, "memory");
     same(
         &rt,
         refused.as_str(),
@@ -14,10 +14,9 @@ fn a_refusal_says_why(rt: HostRuntime) -> Result<(), Fail> {
         "a code",
         "the text",
     );
-    let memory = format!(in rt.alloc(); "{}", Refusal::Memory)?;
+    let memory = format!(in rt.alloc(); "{}", Refusal::Memory).expect(&rt, "memory");
     same(&rt, memory.as_str(), "out of memory", "memory", "the text");
-    let limits = format!(in rt.alloc(); "{BadLimits}")?;
+    let limits = format!(in rt.alloc(); "{BadLimits}").expect(&rt, "memory");
     let wanted = "event channels, image length or timestamp size out of their limits";
     same(&rt, limits.as_str(), wanted, "limits", "the text");
-    Ok(())
 }

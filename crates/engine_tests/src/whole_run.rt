@@ -68,7 +68,7 @@ fn record_once<O: Out + Drop>(
 #[test]
 fn each_sample_of_a_whole_run_is_written(rt: HostRuntime) -> Result<(), Fail> {
     let row = "a whole run";
-    let store = two_lists(rt.alloc())?;
+    let store = two_lists(&rt, rt.alloc());
     let out = VecOut::new(rt.alloc());
     let (report, out) = record_once(rt.alloc(), &store, &[16, 16], out, &[7, 8], 0)?;
     let line = |list, due| ListReport {
@@ -103,11 +103,10 @@ fn are_parts_open(alloc: Global, store: &Store, caps: &[usize]) -> bool {
 }
 
 #[test]
-fn engines_open_over_rings_of_bytes(rt: HostRuntime) -> Result<(), Fail> {
-    let store = two_lists(rt.alloc())?;
+fn engines_open_over_rings_of_bytes(rt: HostRuntime) {
+    let store = two_lists(&rt, rt.alloc());
     let caps = [532, 532];
     let engine = is_engine_open(rt.alloc(), &store, &caps);
     let parts = are_parts_open(rt.alloc(), &store, &caps);
     same(&rt, (engine, parts), (true, true), "532 bytes", "opened");
-    Ok(())
 }

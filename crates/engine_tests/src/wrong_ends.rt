@@ -1,5 +1,5 @@
 //! Ends that aren't those of an engine come back, and those that are close it.
-ghost use Rattle.std.specs.Prelude.{◌≡◌, Err, IfOk, map, true};
+ghost use Rattle.std.specs.Prelude.{◌≡◌, Err, map, true};
 ghost use Rattle.transmitter.specs.Looks.{AreOfRings};
 ghost use Rattle.transmitter.specs.Written.{transmission};
 ghost use Rattle.daq_engine.specs.Configuration.{upto};
@@ -13,7 +13,6 @@ use frame_writer::{FrameWriter, Out, VecOut};
 use sampler::SamplerEnd;
 use std::alloc::Global;
 use std::process::Abort;
-use std::test::Fail;
 use transmitter::Transmitter;
 
 /// A transmitter that writes into memory.
@@ -28,52 +27,58 @@ const NONE: u8 = 0xFF;
 const TWO_FRAMES: [u8; 14] = [3, 0, 0, 0, 0, 7, 8, 3, 0, 1, 0, 1, 9, 10];
 
 /// An engine of two event channels, whose rings have `cap` units each.
-fn opened<K: Ring>(alloc: Global, cap: usize) -> Result<Engine<VecOut<Global>, K::Take>, Fail> {
-    let store = two_lists(alloc)?;
+fn opened<K: Ring>(rt: &impl Abort, alloc: Global, cap: usize) -> Engine<VecOut<Global>, K::Take> {
+    let store = two_lists(rt, alloc);
     let writer = FrameWriter::new(VecOut::new(alloc));
-    match engine_over::<K, VecOut<Global>>(alloc, &store, &[cap, cap], writer) {
-        Ok(engine) => Ok(engine),
-        Err(_) => Err(Fail::from("an engine that isn't opened")),
-    }
+    let caps = [cap, cap];
+    let Ok(engine) = engine_over::<K, VecOut<Global>>(alloc, &store, &caps, writer) else {
+        panic!(rt; "an engine that isn't opened");
+    };
+    engine
 }
 
 /// Such an engine, each event channel of which was triggered and pumped; then the first was
 /// triggered once more.
-fn triggered<K: Ring>(alloc: Global, cap: usize) -> Result<Engine<VecOut<Global>, K::Take>, Fail> {
-    let mut engine = opened::<K>(alloc, cap)?;
-    trigger_and_pump(&mut engine)?;
-    Ok(engine)
+fn triggered<K: Ring>(
+    rt: &impl Abort,
+    alloc: Global,
+    cap: usize,
+) -> Engine<VecOut<Global>, K::Take> {
+    let mut engine = opened::<K>(rt, alloc, cap);
+    trigger_and_pump(rt, &mut engine);
+    engine
 }
 
-fn trigger_and_pump<T: Beside + ItemTake>(
-    engine: &mut Engine<VecOut<Global>, T>,
-) -> Result<(), Fail>
+fn trigger_and_pump<T: Beside + ItemTake>(rt: &impl Abort, engine: &mut Engine<VecOut<Global>, T>)
 where
     T::Send: SendEnd<End = T::End>,
 {
-    engine.trigger(0, &[7, 8], 0)?;
-    engine.trigger(1, &[9, 10], 0)?;
-    engine.pump()?;
-    engine.trigger(0, &[11, 12], 1)?;
-    Ok(())
+    let first = engine.trigger(0, &[7, 8], 0);
+    first.expect(rt, "the first trigger");
+    let second = engine.trigger(1, &[9, 10], 0);
+    second.expect(rt, "the second trigger");
+    engine.pump().expect(rt, "a pump");
+    let third = engine.trigger(0, &[11, 12], 1);
+    third.expect(rt, "the third trigger");
 }
 
 /// What is left of the samplers of an engine, and the transmitter of their rings.
 fn finished<T: Beside + ItemTake>(
+    rt: &impl Abort,
     alloc: Global,
     engine: Engine<VecOut<Global>, T>,
-) -> Result<(Vec<SamplerEnd<T::End>>, Writing<T>), Fail>
+) -> (Vec<SamplerEnd<T::End>>, Writing<T>)
 where
     T::Send: SendEnd<End = T::End>,
-    ensures rings { IfOk result (λ r. AreOfRings T.End.RingEnd
-        (transmission ⟦<VecOut<Global> as Out>⟧ T.TakeEnd r.1) r.0.items) }
+    ensures rings { AreOfRings T.End.RingEnd
+        (transmission ⟦<VecOut<Global> as Out>⟧ T.TakeEnd result.1) result.0.items }
 {
     let (samplers, transmitter) = engine.into_parts();
-    let room = Vec::with_capacity(alloc, samplers.len())?;
-    match finish_all(samplers, room) {
-        Some(ends) => Ok((ends, transmitter)),
-        None => Err(Fail::from("a sampler that isn't finished")),
-    }
+    let room = Vec::with_capacity(alloc, samplers.len()).expect(rt, "memory");
+    let Some(ends) = finish_all(samplers, room) else {
+        panic!(rt; "a sampler that isn't finished");
+    };
+    (ends, transmitter)
 }
 
 /// The event channels of at most three ends.
@@ -102,20 +107,20 @@ fn may_fit<E>(ends: &[SamplerEnd<E>], rings: usize) -> bool
 }
 
 /// What a close answers that isn't refused.
-pub fn closed<R, T: Drop, E: Drop>(answer: Result<R, (CloseFault, T, E)>) -> Result<R, Fail> {
+pub fn closed<R, T: Drop, E: Drop>(rt: &impl Abort, answer: Result<R, (CloseFault, T, E)>) -> R {
     match answer {
-        Ok(closed) => Ok(closed),
-        Err((fault, _, _)) => Err(Fail::from(fault)),
+        Ok(closed) => closed,
+        Err((fault, _, _)) => panic!(rt; "{fault}"),
     }
 }
 
 /// What a close answers that is refused: the fault, and what comes back.
-fn refusal<R: Drop, B>(answer: Result<R, B>) -> Result<B, Fail>
-    ensures { IfOk result (λ back. answer ≡ Err back) }
+fn refusal<R: Drop, B>(rt: &impl Abort, answer: Result<R, B>) -> B
+    ensures { answer ≡ Err result }
 {
     match answer {
-        Ok(_) => Err(Fail::from("closed")),
-        Err(back) => Ok(back),
+        Ok(_) => panic!(rt; "closed"),
+        Err(back) => back,
     }
 }
 
@@ -126,18 +131,18 @@ fn refused<T: ItemTake>(
     transmitter: Writing<T>,
     ends: Vec<SamplerEnd<T::End>>,
     row: &str,
-) -> Result<(Writing<T>, Vec<SamplerEnd<T::End>>), Fail>
-    ensures back { IfOk result (λ r. (r.0 ≡ transmitter) × (r.1 ≡ ends)) }
+) -> (Writing<T>, Vec<SamplerEnd<T::End>>)
+    ensures back { (result.0 ≡ transmitter) × (result.1 ≡ ends) }
 {
     let before = channels_of(ends.as_slice());
     if may_fit(ends.as_slice(), transmitter.rings()) {
-        return Err(Fail::from("ends that may fit"));
+        panic!(rt; "ends that may fit");
     }
-    let (fault, transmitter, ends) = refusal(close(alloc, transmitter, ends))?;
+    let (fault, transmitter, ends) = refusal(rt, close(alloc, transmitter, ends));
     let shown = (fault, channels_of(ends.as_slice()));
     let wanted = (CloseFault::WrongEnds, before);
     same(rt, shown, wanted, row, "fault, ends");
-    Ok((transmitter, ends))
+    (transmitter, ends)
 }
 
 /// Compares the account of an engine of which a sample of each event channel was written, and one
@@ -162,14 +167,13 @@ fn closes<T: ItemTake>(
     transmitter: Writing<T>,
     ends: Vec<SamplerEnd<T::End>>,
     row: &str,
-) -> Result<(), Fail>
+)
     requires rings { AreOfRings T.End.RingEnd
         (transmission ⟦<VecOut<Global> as Out>⟧ T.TakeEnd transmitter) ends.items }
 {
-    let (report, out) = closed(close(alloc, transmitter, ends))?;
+    let (report, out) = closed(rt, close(alloc, transmitter, ends));
     has_account(rt, &report, row);
     same(rt, out.bytes(), &TWO_FRAMES, row, "bytes");
-    Ok(())
 }
 
 /// Hands `close` no end, and the first of two; the two come back.
@@ -179,17 +183,15 @@ fn refuses_few<T: ItemTake>(
     transmitter: Writing<T>,
     ends: Vec<SamplerEnd<T::End>>,
     row: &str,
-) -> Result<(Writing<T>, Vec<SamplerEnd<T::End>>), Fail>
-    ensures back { IfOk result (λ r. r.0 ≡ transmitter) }
+) -> (Writing<T>, Vec<SamplerEnd<T::End>>)
+    ensures back { result.0 ≡ transmitter }
 {
-    let (transmitter, _) = refused(rt, alloc, transmitter, Vec::new(alloc), row)?;
+    let (transmitter, _) = refused(rt, alloc, transmitter, Vec::new(alloc), row);
     let mut ends = ends;
-    let Some(second) = ends.pop() else {
-        return Err(Fail::from("no end"));
-    };
-    let (transmitter, mut ends) = refused(rt, alloc, transmitter, ends, row)?;
-    ends.push(second)?;
-    Ok((transmitter, ends))
+    let second = ends.pop().expect(rt, "an end");
+    let (transmitter, mut ends) = refused(rt, alloc, transmitter, ends, row);
+    ends.push(second).expect(rt, "memory");
+    (transmitter, ends)
 }
 
 /// Hands `close` two ends and one more; the three come back.
@@ -200,11 +202,11 @@ fn refuses_three<T: ItemTake>(
     ends: Vec<SamplerEnd<T::End>>,
     third: SamplerEnd<T::End>,
     row: &str,
-) -> Result<(Writing<T>, Vec<SamplerEnd<T::End>>), Fail>
-    ensures back { IfOk result (λ r. r.0 ≡ transmitter) }
+) -> (Writing<T>, Vec<SamplerEnd<T::End>>)
+    ensures back { result.0 ≡ transmitter }
 {
     let mut ends = ends;
-    ends.push(third)?;
+    ends.push(third).expect(rt, "memory");
     refused(rt, alloc, transmitter, ends, row)
 }
 
@@ -215,19 +217,17 @@ fn refuses_order<T: ItemTake>(
     transmitter: Writing<T>,
     ends: Vec<SamplerEnd<T::End>>,
     row: &str,
-) -> Result<Writing<T>, Fail>
-    ensures back { IfOk result (λ r. r ≡ transmitter) }
+) -> Writing<T>
+    ensures back { result ≡ transmitter }
 {
     let mut ends = ends;
-    let Some(third) = ends.pop() else {
-        return Err(Fail::from("no end"));
-    };
+    let third = ends.pop().expect(rt, "an end");
     ends.as_mut_slice().reverse();
-    let (transmitter, mut ends) = refused(rt, alloc, transmitter, ends, row)?;
+    let (transmitter, mut ends) = refused(rt, alloc, transmitter, ends, row);
     let _ = ends.pop();
-    ends.push(third)?;
-    let (transmitter, _) = refused(rt, alloc, transmitter, ends, row)?;
-    Ok(transmitter)
+    ends.push(third).expect(rt, "memory");
+    let (transmitter, _) = refused(rt, alloc, transmitter, ends, row);
+    transmitter
 }
 
 /// Hands an engine's `close` no end, one, three, two in falling order and two of one event channel,
@@ -239,33 +239,23 @@ fn refuses_others<T: ItemTake>(
     ends: Vec<SamplerEnd<T::End>>,
     third: SamplerEnd<T::End>,
     row: &str,
-) -> Result<Writing<T>, Fail>
-    ensures back { IfOk result (λ r. r ≡ transmitter) }
+) -> Writing<T>
+    ensures back { result ≡ transmitter }
 {
-    let (transmitter, ends) = refuses_few(rt, alloc, transmitter, ends, row)?;
-    let (transmitter, ends) = refuses_three(rt, alloc, transmitter, ends, third, row)?;
+    let (transmitter, ends) = refuses_few(rt, alloc, transmitter, ends, row);
+    let (transmitter, ends) = refuses_three(rt, alloc, transmitter, ends, third, row);
     refuses_order(rt, alloc, transmitter, ends, row)
 }
 
 /// What is left of the samplers of another engine.
 fn other_ends<K: Ring>(
+    rt: &impl Abort,
     alloc: Global,
     cap: usize,
-) -> Result<Vec<SamplerEnd<<K::Take as TakeEnd>::End>>, Fail> {
-    let (ends, _) = finished(alloc, triggered::<K>(alloc, cap)?)?;
-    Ok(ends)
-}
-
-/// The last of what is left of the samplers of another engine.
-fn last_other_end<K: Ring>(
-    alloc: Global,
-    cap: usize,
-) -> Result<SamplerEnd<<K::Take as TakeEnd>::End>, Fail> {
-    let mut ends = other_ends::<K>(alloc, cap)?;
-    match ends.pop() {
-        Some(end) => Ok(end),
-        None => Err(Fail::from("no end")),
-    }
+) -> Vec<SamplerEnd<<K::Take as TakeEnd>::End>> {
+    let engine = triggered::<K>(rt, alloc, cap);
+    let (ends, _) = finished(rt, alloc, engine);
+    ends
 }
 
 /// Hands an engine's `close` ends of other engines.
@@ -275,28 +265,25 @@ fn refuses_other_ends<K: Ring>(
     cap: usize,
     transmitter: Writing<K::Take>,
     row: &str,
-) -> Result<Writing<K::Take>, Fail>
-    ensures back { IfOk result (λ r. r ≡ transmitter) }
+) -> Writing<K::Take>
+    ensures back { result ≡ transmitter }
 {
-    let third = last_other_end::<K>(alloc, cap)?;
-    let ends = other_ends::<K>(alloc, cap)?;
+    let third = other_ends::<K>(rt, alloc, cap).pop();
+    let third = third.expect(rt, "an end");
+    let ends = other_ends::<K>(rt, alloc, cap);
     refuses_others(rt, alloc, transmitter, ends, third, row)
 }
 
 /// Hands an engine's `close` ends of other engines, then its own.
-fn closes_with_its_own<K: Ring>(
-    rt: &impl Abort,
-    alloc: Global,
-    cap: usize,
-    row: &str,
-) -> Result<(), Fail> {
-    let (own, transmitter) = finished(alloc, triggered::<K>(alloc, cap)?)?;
-    let transmitter = refuses_other_ends::<K>(rt, alloc, cap, transmitter, row)?;
-    closes(rt, alloc, transmitter, own, row)
+fn closes_with_its_own<K: Ring>(rt: &impl Abort, alloc: Global, cap: usize, row: &str) {
+    let engine = triggered::<K>(rt, alloc, cap);
+    let (own, transmitter) = finished(rt, alloc, engine);
+    let transmitter = refuses_other_ends::<K>(rt, alloc, cap, transmitter, row);
+    closes(rt, alloc, transmitter, own, row);
 }
 
 #[test]
-fn ends_of_another_engine_come_back(rt: HostRuntime) -> Result<(), Fail> {
-    closes_with_its_own::<SampleRing>(&rt, rt.alloc(), 8, "a ring of samples")?;
-    closes_with_its_own::<ByteRing>(&rt, rt.alloc(), 532, "a ring of bytes")
+fn ends_of_another_engine_come_back(rt: HostRuntime) {
+    closes_with_its_own::<SampleRing>(&rt, rt.alloc(), 8, "a ring of samples");
+    closes_with_its_own::<ByteRing>(&rt, rt.alloc(), 532, "a ring of bytes");
 }

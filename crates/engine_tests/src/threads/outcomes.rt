@@ -3,19 +3,19 @@ use daq_run::{Gate, Outcome, run_threads};
 use frame_writer::VecOut;
 use run_file::Run;
 use std::alloc::Global;
+use std::process::Abort;
 use std::sync::Wait;
-use std::test::Fail;
 use std::thread::Threads;
 
 /// What comes of a run by a gate, which writes into memory.
-pub fn outcome_of<R: Threads + Wait + Sync, G: Gate + Sync>(
+pub fn outcome_of<R: Threads + Wait + Sync + Abort, G: Gate + Sync>(
     rt: &R,
     alloc: Global,
     run: &Run,
     gate: &G,
-) -> Result<Outcome<VecOut<Global>>, Fail> {
+) -> Outcome<VecOut<Global>> {
     match run_threads(rt, alloc, run, VecOut::new(alloc), gate) {
-        Ok(outcome) => Ok(outcome),
-        Err((fault, _)) => Err(Fail::from(fault)),
+        Ok(outcome) => outcome,
+        Err((fault, _)) => panic!(rt; "{fault}"),
     }
 }

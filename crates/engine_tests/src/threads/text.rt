@@ -1,7 +1,7 @@
 //! Texts of run files, from parts.
 use run_file::Run;
 use std::alloc::Global;
-use std::test::Fail;
+use std::process::Abort;
 
 /// Two event channels, images of one byte, and a ring of one place for each.
 pub const TWO_PLACES: &str = "channels = 2\nimage_len = 1\ncaps = [1, 1]\n";
@@ -42,7 +42,7 @@ pub const ZEROS_31: &str = "0000000000000000000000000000000000000000000000000000
 pub const ZEROS_32: &str = "0000000000000000000000000000000000000000000000000000000000000000";
 
 /// The run of some parts of a text, one behind another.
-pub fn run_of(alloc: Global, parts: &[&str]) -> Result<Run, Fail> {
-    let text = parts.concat(alloc)?;
-    Ok(Run::read(alloc, &text)?)
+pub fn run_of(rt: &impl Abort, alloc: Global, parts: &[&str]) -> Run {
+    let text = parts.concat(alloc).expect(rt, "memory");
+    Run::read(alloc, &text).expect(rt, "a run")
 }

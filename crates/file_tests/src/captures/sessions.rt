@@ -5,7 +5,6 @@ use captured_samples::{KeptSamples, SlaveSamples};
 use captured_session::{CapturedList, CapturedSession, Element, Form, Side, list_in};
 use std::alloc::Global;
 use std::process::Abort;
-use std::test::Fail;
 
 /// A command, and its reply.
 type Exchange<'b> = (&'b [u8], &'b [u8]);
@@ -66,87 +65,68 @@ const SAID: [(Side, &[u8], Option<&[u8]>, bool, &str); 4] = [
     ),
 ];
 
-/// A packet of the session.
-fn hear(session: &mut CapturedSession, side: Side, packet: &[u8]) -> Result<(), Fail> {
-    match session.hear(side, packet) {
-        Ok(()) => Ok(()),
-        Err(_) => Err(Fail::from("a packet that can't be heard")),
+/// Hears commands, each with its reply.
+fn hear_all(rt: &impl Abort, session: &mut CapturedSession, rows: &[Exchange<'_>]) {
+    for (command, reply) in rows {
+        session.hear(Side::Master, command).expect(rt, "a command");
+        session.hear(Side::Slave, reply).expect(rt, "a reply");
     }
 }
 
 /// A session of commands, each with its reply.
-fn session_of(alloc: Global, rows: &[Exchange<'_>]) -> Result<CapturedSession, Fail> {
+fn session_of(rt: &impl Abort, alloc: Global, rows: &[Exchange<'_>]) -> CapturedSession {
     let mut session = CapturedSession::new(alloc, Form::UNTOLD);
-    for (command, reply) in rows {
-        hear(&mut session, Side::Master, command)?;
-        hear(&mut session, Side::Slave, reply)?;
-    }
-    Ok(session)
-}
-
-/// A list, if all is known of it.
-fn list_of(
-    alloc: Global,
-    session: &CapturedSession,
-    list: u16,
-) -> Result<Option<CapturedList>, Fail> {
-    match list_in(alloc, session.set_up(), list) {
-        Ok(found) => Ok(found),
-        Err(_) => Err(Fail::from("out of memory")),
-    }
+    hear_all(rt, &mut session, rows);
+    session
 }
 
 /// Hears what a slave says in a frame of this number, and hands its samples over.
 fn hear_slave(
+    rt: &impl Abort,
     samples: &mut SlaveSamples,
     kept: &mut KeptSamples,
     counter: u16,
     packet: &[u8],
-) -> Result<(), Fail> {
-    match samples.hear_slave(counter, packet, kept) {
-        Ok(()) => Ok(()),
-        Err(_) => Err(Fail::from("a frame that can't be heard")),
-    }
+) {
+    let heard = samples.hear_slave(counter, packet, kept);
+    heard.expect(rt, "a slave's frame");
 }
 
 /// Hears a command and its reply, each in a frame of this number.
 fn hear_both(
+    rt: &impl Abort,
     samples: &mut SlaveSamples,
     kept: &mut KeptSamples,
     counter: u16,
     exchange: Exchange<'_>,
-) -> Result<(), Fail> {
+) {
     let (command, reply) = exchange;
-    let Ok(()) = samples.hear_master(counter, command) else {
-        return Err(Fail::from("a frame that can't be heard"));
-    };
-    hear_slave(samples, kept, counter, reply)
+    let heard = samples.hear_master(counter, command);
+    heard.expect(rt, "a master's frame");
+    hear_slave(rt, samples, kept, counter, reply);
 }
 
 /// Hears Intel's set-up, and a sample of two packets behind it.
-fn hear_sample(samples: &mut SlaveSamples, kept: &mut KeptSamples) -> Result<(), Fail> {
+fn hear_sample(rt: &impl Abort, samples: &mut SlaveSamples, kept: &mut KeptSamples) {
     let mut counter: u16 = 0;
     for exchange in INTEL {
-        hear_both(samples, kept, counter, exchange)?;
+        hear_both(rt, samples, kept, counter, exchange);
         counter = counter.wrapping_add(1);
     }
-    hear_slave(samples, kept, counter, &[7, 0, 0, 0, 0, 1, 2, 3, 4, 5])?;
-    hear_slave(samples, kept, counter.wrapping_add(1), &[8, 6, 7])
+    let packet = [7, 0, 0, 0, 0, 1, 2, 3, 4, 5];
+    hear_slave(rt, samples, kept, counter, &packet);
+    hear_slave(rt, samples, kept, counter.wrapping_add(1), &[8, 6, 7]);
 }
 
 /// How many samples and frames were told, and how many were handed over, behind Intel's set-up and
 /// a sample.
-fn told_samples(alloc: Global) -> Result<(u64, u64, usize, bool), Fail> {
+fn told_samples(rt: &impl Abort, alloc: Global) -> (u64, u64, usize, bool) {
     let mut samples = SlaveSamples::new(alloc, Form::UNTOLD);
     let mut kept = KeptSamples::new(alloc);
-    hear_sample(&mut samples, &mut kept)?;
+    hear_sample(rt, &mut samples, &mut kept);
     let tallies = samples.tallies();
-    Ok((
-        tallies.samples,
-        tallies.frames,
-        kept.samples.len(),
-        kept.is_short,
-    ))
+    let handed_over = kept.samples.len();
+    (tallies.samples, tallies.frames, handed_over, kept.is_short)
 }
 
 /// An entry.
@@ -175,6 +155,16 @@ fn list_shows(rt: &impl Abort, list: &CapturedList, known: Known<'_>, row: &str)
     }
 }
 
+/// A list of a session, if all is known of it.
+fn list_of(
+    rt: &impl Abort,
+    alloc: Global,
+    session: &CapturedSession,
+    list: u16,
+) -> Option<CapturedList> {
+    list_in(alloc, session.set_up(), list).expect(rt, "memory")
+}
+
 /// Compares a list of the session of commands, each with its reply.
 fn session_has(
     rt: &impl Abort,
@@ -183,49 +173,40 @@ fn session_has(
     number: u16,
     known: Known<'_>,
     row: &str,
-) -> Result<(), Fail> {
-    let session = session_of(alloc, exchanges)?;
-    let Some(list) = list_of(alloc, &session, number)? else {
-        return Err(Fail::from("a list of which not all is known"));
-    };
-    list_shows(rt, &list, known, row);
-    Ok(())
-}
-
-/// Whether all is known of a list.
-fn is_known(alloc: Global, session: &CapturedSession, list: u16) -> Result<bool, Fail> {
-    Ok(list_of(alloc, session, list)?.is_some())
+) {
+    let session = session_of(rt, alloc, exchanges);
+    let list = list_of(rt, alloc, &session, number);
+    list_shows(rt, &list.expect(rt, "all of the list"), known, row);
 }
 
 /// Says what is said once a set-up is there: compares the command that waits for its reply, and
 /// whether the list is still known.
-fn goes_on(rt: &impl Abort, alloc: Global, session: &mut CapturedSession) -> Result<(), Fail> {
+fn goes_on(rt: &impl Abort, alloc: Global, session: &mut CapturedSession) {
     for (side, packet, waiting, wanted, row) in SAID {
-        hear(session, side, packet)?;
+        session.hear(side, packet).expect(rt, "a packet");
         same(rt, session.waiting(), waiting, row, "waiting");
-        same(rt, is_known(alloc, session, 0)?, wanted, row, "known");
+        let is_known = list_of(rt, alloc, session, 0).is_some();
+        same(rt, is_known, wanted, row, "known");
     }
-    Ok(())
 }
 
 #[test]
-fn a_session_is_known(rt: HostRuntime) -> Result<(), Fail> {
+fn a_session_is_known(rt: HostRuntime) {
     let alloc = rt.alloc();
     let intel = [
         element(0xFF, 4, 0, 0x4030_2010),
         element(3, 1, 5, 0x4030_2011),
     ];
     let known: Known<'_> = ((0x10, 0x0201, 3), Some(7), &intel);
-    session_has(&rt, alloc, &INTEL, 0, known, "Intel")?;
+    session_has(&rt, alloc, &INTEL, 0, known, "Intel");
     let motorola = [
         element(0xFF, 4, 6, 0x4030_2010),
         element(0xFF, 2, 0, 0x4030_2014),
         element(0xFF, 1, 0, 0x4030_2016),
     ];
     let known: Known<'_> = ((0, 5, 1), None, &motorola);
-    session_has(&rt, alloc, &MOTOROLA, 0x0102, known, "Motorola")?;
-    goes_on(&rt, alloc, &mut session_of(alloc, &INTEL)?)?;
-    let told = told_samples(alloc)?;
+    session_has(&rt, alloc, &MOTOROLA, 0x0102, known, "Motorola");
+    goes_on(&rt, alloc, &mut session_of(&rt, alloc, &INTEL));
+    let told = told_samples(&rt, alloc);
     same(&rt, told, (1, 17, 1, false), "a sample", "samples told");
-    Ok(())
 }

@@ -8,79 +8,61 @@ use mdf_blocks::{
     push_file_header, push_file_history, push_text,
 };
 use measured_values::{ByteOrder, ValueLimits};
-use std::alloc::{AllocError, Global};
+use std::alloc::AllocError;
 use std::process::Abort;
-use std::test::Fail;
 
 /// That bytes are those of a table.
 fn same(rt: &impl Abort, name: &str, bytes: &[u8], wanted: &[u8]) {
     holds(rt, bytes == wanted, name);
 }
 
-fn header(alloc: Global) -> Result<Vec<u8>, AllocError> {
-    let mut out = Vec::new(alloc);
-    push_file_header(
-        &mut out,
-        &FileHeader {
-            first_group: 0x2a8,
-            first_history: 0xa8,
-            comment: 0x1f0,
-            start: Time {
-                nanoseconds: 1_700_000_000_123_456_789,
-                zone: Zone::Offsets {
-                    zone: 60,
-                    daylight: -60,
-                },
-            },
+const HEADER: FileHeader = FileHeader {
+    first_group: 0x2a8,
+    first_history: 0xa8,
+    comment: 0x1f0,
+    start: Time {
+        nanoseconds: 1_700_000_000_123_456_789,
+        zone: Zone::Offsets {
+            zone: 60,
+            daylight: -60,
         },
-    )?;
-    Ok(out)
-}
+    },
+};
 
-fn history(alloc: Global) -> Result<Vec<u8>, AllocError> {
-    let mut out = Vec::new(alloc);
-    push_file_history(
-        &mut out,
-        &FileHistory {
-            next: 0x1234,
-            comment: 0x5678,
-            time: Time {
-                nanoseconds: 1_700_000_000_000_000_000,
-                zone: Zone::Local,
-            },
-        },
-    )?;
-    Ok(out)
-}
+const HISTORY: FileHistory = FileHistory {
+    next: 0x1234,
+    comment: 0x5678,
+    time: Time {
+        nanoseconds: 1_700_000_000_000_000_000,
+        zone: Zone::Local,
+    },
+};
 
-fn data_group(alloc: Global) -> Result<Vec<u8>, AllocError> {
-    let mut out = Vec::new(alloc);
-    push_data_group(
-        &mut out,
-        &DataGroup {
-            next: 0x108,
-            channel_group: 0x208,
-            records: 0x308,
-            comment: 0x408,
-        },
-    )?;
-    Ok(out)
-}
+const DATA_GROUP: DataGroup = DataGroup {
+    next: 0x108,
+    channel_group: 0x208,
+    records: 0x308,
+    comment: 0x408,
+};
 
-fn channel_group(alloc: Global) -> Result<Vec<u8>, AllocError> {
-    let mut out = Vec::new(alloc);
-    push_channel_group(
-        &mut out,
-        &ChannelGroup {
-            first_channel: 0x510,
-            acquisition_name: 0x610,
-            comment: 0x710,
-            cycles: 66_051,
-            record_bytes: 260,
-        },
-    )?;
-    Ok(out)
-}
+const CHANNEL_GROUP: ChannelGroup = ChannelGroup {
+    first_channel: 0x510,
+    acquisition_name: 0x610,
+    comment: 0x710,
+    cycles: 66_051,
+    record_bytes: 260,
+};
+
+const LIST: [ListedData; 2] = [
+    ListedData {
+        place: 0x1000,
+        offset: 0,
+    },
+    ListedData {
+        place: 0x2000,
+        offset: 4096,
+    },
+];
 
 /// A value of 11 bits by Motorola's order, from bit 5 of byte 258 on, from -1.5 to 2048.
 const VALUE: Channel = Channel {
@@ -130,116 +112,69 @@ const INDEX: Channel = Channel {
     limits: None,
 };
 
-fn channel(alloc: Global, channel: &Channel) -> Result<Vec<u8>, AllocError> {
-    let mut out = Vec::new(alloc);
-    push_channel(&mut out, channel)?;
-    Ok(out)
-}
-
-fn text(alloc: Global, text: &str) -> Result<Vec<u8>, AllocError> {
-    let mut out = Vec::new(alloc);
-    push_text(&mut out, text)?;
-    Ok(out)
-}
-
-fn comment(alloc: Global, text: &str) -> Result<Vec<u8>, AllocError> {
-    let mut out = Vec::new(alloc);
-    push_comment(&mut out, text)?;
-    Ok(out)
-}
-
-fn list(alloc: Global) -> Result<Vec<u8>, AllocError> {
-    let mut out = Vec::new(alloc);
-    let blocks = [
-        ListedData {
-            place: 0x1000,
-            offset: 0,
-        },
-        ListedData {
-            place: 0x2000,
-            offset: 4096,
-        },
-    ];
-    push_data_list(&mut out, 0x800, &blocks)?;
-    Ok(out)
-}
-
-fn linear(alloc: Global) -> Result<Vec<u8>, AllocError> {
-    let mut out = Vec::new(alloc);
-    push_conversion(&mut out, ConversionKind::Linear, 0x90, &[], &[-40.0, 0.5])?;
-    Ok(out)
-}
-
-fn rational(alloc: Global) -> Result<Vec<u8>, AllocError> {
-    let mut out = Vec::new(alloc);
-    let numbers = [0.0, 4.0, -3.0, 0.0, 0.0, 2.0];
-    push_conversion(&mut out, ConversionKind::Rational, 0, &[], &numbers)?;
-    Ok(out)
-}
-
-fn texts(alloc: Global) -> Result<Vec<u8>, AllocError> {
-    let mut out = Vec::new(alloc);
-    let places = [0xa0, 0xb0, 0];
-    push_conversion(
-        &mut out,
-        ConversionKind::ValuesToTexts,
-        0,
-        &places,
-        &[-1.0, 1.0],
-    )?;
-    Ok(out)
-}
-
-fn ranges(alloc: Global) -> Result<Vec<u8>, AllocError> {
-    let mut out = Vec::new(alloc);
-    let places = [0xa0, 0xb0, 0xc0];
-    let bounds = [0.0, 9.0, 10.0, 19.0];
-    push_conversion(&mut out, ConversionKind::RangesToTexts, 0, &places, &bounds)?;
-    Ok(out)
-}
-
-/// That a block has the bytes of a table, if there is memory for it.
+/// That a block was pushed, and has the bytes of a table; the next one is pushed to nothing again.
 fn block_is(
     rt: &impl Abort,
     name: &str,
-    block: Result<Vec<u8>, AllocError>,
+    pushed: Result<(), AllocError>,
+    block: &mut Vec<u8>,
     wanted: &[u8],
-) -> Result<(), Fail> {
-    same(rt, name, &block?, wanted);
-    Ok(())
+) {
+    pushed.expect(rt, "memory");
+    same(rt, name, block, wanted);
+    block.clear();
 }
 
 /// The blocks of a file, its groups and their data.
-fn groups_are_those_of_tables(rt: &impl Abort, alloc: Global) -> Result<(), Fail> {
-    block_is(rt, "HD", header(alloc), worked::HEADER)?;
-    block_is(rt, "FH", history(alloc), worked::HISTORY)?;
-    block_is(rt, "DG", data_group(alloc), worked::DATA_GROUP)?;
-    block_is(rt, "CG", channel_group(alloc), worked::CHANNEL_GROUP)?;
-    block_is(rt, "DL", list(alloc), worked::LIST)
+fn groups_are_those_of_tables(rt: &impl Abort, out: &mut Vec<u8>) {
+    let pushed = push_file_header(out, &HEADER);
+    block_is(rt, "HD", pushed, out, worked::HEADER);
+    let pushed = push_file_history(out, &HISTORY);
+    block_is(rt, "FH", pushed, out, worked::HISTORY);
+    let pushed = push_data_group(out, &DATA_GROUP);
+    block_is(rt, "DG", pushed, out, worked::DATA_GROUP);
+    let pushed = push_channel_group(out, &CHANNEL_GROUP);
+    block_is(rt, "CG", pushed, out, worked::CHANNEL_GROUP);
+    let pushed = push_data_list(out, 0x800, &LIST);
+    block_is(rt, "DL", pushed, out, worked::LIST);
 }
 
 /// The blocks of channels and texts.
-fn channels_are_those_of_tables(rt: &impl Abort, alloc: Global) -> Result<(), Fail> {
-    block_is(rt, "CN, a value", channel(alloc, &VALUE), worked::CHANNEL)?;
-    block_is(rt, "CN, the time", channel(alloc, &MASTER), worked::MASTER)?;
-    block_is(rt, "CN, the index", channel(alloc, &INDEX), worked::INDEX)?;
-    block_is(rt, "TX", text(alloc, "speed"), worked::TEXT)?;
-    block_is(rt, "MD", comment(alloc, "<TX>°C é</TX>"), worked::COMMENT)
+fn channels_are_those_of_tables(rt: &impl Abort, out: &mut Vec<u8>) {
+    let pushed = push_channel(out, &VALUE);
+    block_is(rt, "CN, a value", pushed, out, worked::CHANNEL);
+    let pushed = push_channel(out, &MASTER);
+    block_is(rt, "CN, the time", pushed, out, worked::MASTER);
+    let pushed = push_channel(out, &INDEX);
+    block_is(rt, "CN, the index", pushed, out, worked::INDEX);
+    let pushed = push_text(out, "speed");
+    block_is(rt, "TX", pushed, out, worked::TEXT);
+    let pushed = push_comment(out, "<TX>°C é</TX>");
+    block_is(rt, "MD", pushed, out, worked::COMMENT);
 }
 
 /// The blocks of conversions.
-fn conversions_are_those_of_tables(rt: &impl Abort, alloc: Global) -> Result<(), Fail> {
-    block_is(rt, "CC, linear", linear(alloc), worked::LINEAR)?;
-    block_is(rt, "CC, rational", rational(alloc), worked::RATIONAL)?;
-    block_is(rt, "CC, texts", texts(alloc), worked::TEXTS)?;
-    block_is(rt, "CC, ranges", ranges(alloc), worked::RANGES)
+fn conversions_are_those_of_tables(rt: &impl Abort, out: &mut Vec<u8>) {
+    let pushed = push_conversion(out, ConversionKind::Linear, 0x90, &[], &[-40.0, 0.5]);
+    block_is(rt, "CC, linear", pushed, out, worked::LINEAR);
+    let numbers = [0.0, 4.0, -3.0, 0.0, 0.0, 2.0];
+    let pushed = push_conversion(out, ConversionKind::Rational, 0, &[], &numbers);
+    block_is(rt, "CC, rational", pushed, out, worked::RATIONAL);
+    let places = [0xa0, 0xb0, 0];
+    let pushed = push_conversion(out, ConversionKind::ValuesToTexts, 0, &places, &[-1.0, 1.0]);
+    block_is(rt, "CC, texts", pushed, out, worked::TEXTS);
+    let places = [0xa0, 0xb0, 0xc0];
+    let bounds = [0.0, 9.0, 10.0, 19.0];
+    let pushed = push_conversion(out, ConversionKind::RangesToTexts, 0, &places, &bounds);
+    block_is(rt, "CC, ranges", pushed, out, worked::RANGES);
 }
 
 #[test]
-fn each_block_has_the_bytes_of_its_table(rt: HostRuntime) -> Result<(), Fail> {
-    groups_are_those_of_tables(&rt, rt.alloc())?;
-    channels_are_those_of_tables(&rt, rt.alloc())?;
-    conversions_are_those_of_tables(&rt, rt.alloc())
+fn each_block_has_the_bytes_of_its_table(rt: HostRuntime) {
+    let mut out = Vec::new(rt.alloc());
+    groups_are_those_of_tables(&rt, &mut out);
+    channels_are_those_of_tables(&rt, &mut out);
+    conversions_are_those_of_tables(&rt, &mut out);
 }
 
 #[test]

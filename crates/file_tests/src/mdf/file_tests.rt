@@ -2,28 +2,35 @@
 use crate::holds::holds;
 use crate::mdf::worked_file::FILE;
 use mdf_blocks::{Axis, ChannelKind, ConversionKind, ListedData, Time, ValueFormat, Zone};
-use mdf_file::{About, MdfFault, NewChannel, NewConversion, StreamedGroup, data_bytes, file_end};
+use mdf_file::{About, NewChannel, NewConversion, StreamedGroup, data_bytes, file_end};
 use measured_values::{ByteOrder, ValueLimits};
-use std::alloc::{AllocError, Global};
-use std::test::Fail;
+use std::alloc::Global;
+use std::process::Abort;
 
-pub const START: Time = Time {
+const START: Time = Time {
     nanoseconds: 1_700_000_000_000_000_000,
     zone: Zone::Utc,
 };
 
-pub const COMMENT: &str = "<FHcomment><TX>made</TX></FHcomment>";
+const COMMENT: &str = "<FHcomment><TX>made</TX></FHcomment>";
 
-fn floats(alloc: Global, items: &[f64]) -> Result<Vec<f64>, AllocError> {
-    let mut out = Vec::new(alloc);
-    out.extend_from_slice(items)?;
-    Ok(out)
+pub fn about(rt: &impl Abort, alloc: Global) -> About {
+    About {
+        start: START,
+        program: *b"nerthogl",
+        comment: text(rt, alloc, COMMENT),
+    }
 }
 
-pub fn time(alloc: Global) -> Result<NewChannel, AllocError> {
-    Ok(NewChannel {
-        name: "t".to_owned(alloc)?,
-        unit: Some("s".to_owned(alloc)?),
+/// A text of its own memory.
+pub fn text(rt: &impl Abort, alloc: Global, text: &str) -> String {
+    text.to_owned(alloc).expect(rt, "memory")
+}
+
+pub fn time(rt: &impl Abort, alloc: Global) -> NewChannel {
+    NewChannel {
+        name: text(rt, alloc, "t"),
+        unit: Some(text(rt, alloc, "s")),
         comment: None,
         conversion: None,
         kind: ChannelKind::Master(Axis::Time),
@@ -32,46 +39,48 @@ pub fn time(alloc: Global) -> Result<NewChannel, AllocError> {
         byte_offset: 0,
         bit_count: 64,
         limits: None,
-    })
+    }
 }
 
-fn on_or_off(alloc: Global) -> Result<NewConversion, AllocError> {
-    let mut texts = Vec::new(alloc);
-    texts.push(Some("off".to_owned(alloc)?))?;
-    texts.push(Some("on".to_owned(alloc)?))?;
-    texts.push(None)?;
-    Ok(NewConversion {
+fn on_or_off(rt: &impl Abort, alloc: Global) -> NewConversion {
+    let off = Some(text(rt, alloc, "off"));
+    let on = Some(text(rt, alloc, "on"));
+    NewConversion {
         kind: ConversionKind::ValuesToTexts,
-        values: floats(alloc, &[0.0, 1.0])?,
-        texts,
-    })
+        values: vec![in alloc; 0.0, 1.0].expect(rt, "memory"),
+        texts: vec![in alloc; off, on, None].expect(rt, "memory"),
+    }
 }
 
-pub fn state(alloc: Global) -> Result<NewChannel, AllocError> {
-    Ok(NewChannel {
-        name: "state".to_owned(alloc)?,
+pub fn state(rt: &impl Abort, alloc: Global) -> NewChannel {
+    NewChannel {
+        name: text(rt, alloc, "state"),
         unit: None,
-        comment: Some("mode".to_owned(alloc)?),
-        conversion: Some(on_or_off(alloc)?),
+        comment: Some(text(rt, alloc, "mode")),
+        conversion: Some(on_or_off(rt, alloc)),
         kind: ChannelKind::Value,
         format: ValueFormat::Unsigned(ByteOrder::MsbLast),
         bit_offset: 0,
         byte_offset: 8,
         bit_count: 8,
         limits: None,
-    })
+    }
 }
 
-pub fn speed(alloc: Global) -> Result<NewChannel, AllocError> {
-    Ok(NewChannel {
-        name: "speed".to_owned(alloc)?,
-        unit: Some("rpm".to_owned(alloc)?),
+fn half_behind_40(rt: &impl Abort, alloc: Global) -> NewConversion {
+    NewConversion {
+        kind: ConversionKind::Linear,
+        values: vec![in alloc; -40.0, 0.5].expect(rt, "memory"),
+        texts: Vec::new(alloc),
+    }
+}
+
+pub fn speed(rt: &impl Abort, alloc: Global) -> NewChannel {
+    NewChannel {
+        name: text(rt, alloc, "speed"),
+        unit: Some(text(rt, alloc, "rpm")),
         comment: None,
-        conversion: Some(NewConversion {
-            kind: ConversionKind::Linear,
-            values: floats(alloc, &[-40.0, 0.5])?,
-            texts: Vec::new(alloc),
-        }),
+        conversion: Some(half_behind_40(rt, alloc)),
         kind: ChannelKind::Value,
         format: ValueFormat::Signed(ByteOrder::MsbFirst),
         bit_offset: 0,
@@ -81,7 +90,7 @@ pub fn speed(alloc: Global) -> Result<NewChannel, AllocError> {
             least: -1.5,
             greatest: 2048.0,
         }),
-    })
+    }
 }
 
 pub const QUARTERS: [u8; 18] = [
@@ -91,38 +100,13 @@ pub const QUARTERS: [u8; 18] = [
 pub const LATER: [u8; 9] = [0, 0, 0, 0, 0, 0, 0xe8, 0x3f, 1];
 
 /// The channels of a group of two.
-pub fn two(alloc: Global) -> Result<Vec<NewChannel>, AllocError> {
-    let mut out = Vec::new(alloc);
-    out.push(time(alloc)?)?;
-    out.push(state(alloc)?)?;
-    Ok(out)
+pub fn two(rt: &impl Abort, alloc: Global) -> Vec<NewChannel> {
+    vec![in alloc; time(rt, alloc), state(rt, alloc)].expect(rt, "memory")
 }
 
 /// The channel of a group of one.
-pub fn one(alloc: Global) -> Result<Vec<NewChannel>, AllocError> {
-    let mut out = Vec::new(alloc);
-    out.push(speed(alloc)?)?;
-    Ok(out)
-}
-
-/// A group of these channels, whose records are `len` bytes in blocks at these places.
-fn group(
-    alloc: Global,
-    name: &str,
-    channels: Vec<NewChannel>,
-    record_bytes: u32,
-    listed: &[ListedData],
-    len: u64,
-) -> Result<StreamedGroup, AllocError> {
-    let mut blocks = Vec::new(alloc);
-    blocks.extend_from_slice(listed)?;
-    Ok(StreamedGroup {
-        name: name.to_owned(alloc)?,
-        channels,
-        record_bytes,
-        blocks,
-        len,
-    })
+pub fn one(rt: &impl Abort, alloc: Global) -> Vec<NewChannel> {
+    vec![in alloc; speed(rt, alloc)].expect(rt, "memory")
 }
 
 /// The blocks of the group of two.
@@ -143,37 +127,41 @@ const SECOND_BLOCK: [ListedData; 1] = [ListedData {
     offset: 0,
 }];
 
-fn streamed(alloc: Global) -> Result<Vec<StreamedGroup>, AllocError> {
-    let mut out = Vec::new(alloc);
-    out.push(group(alloc, "10 ms", two(alloc)?, 9, &FIRST_BLOCKS, 27)?)?;
-    out.push(group(alloc, "event", one(alloc)?, 2, &SECOND_BLOCK, 2)?)?;
-    Ok(out)
+/// The groups, whose records are so many bytes in blocks at these places.
+fn streamed(rt: &impl Abort, alloc: Global) -> Vec<StreamedGroup> {
+    let first = StreamedGroup {
+        name: text(rt, alloc, "10 ms"),
+        channels: two(rt, alloc),
+        record_bytes: 9,
+        blocks: FIRST_BLOCKS.to_vec(alloc).expect(rt, "memory"),
+        len: 27,
+    };
+    let second = StreamedGroup {
+        name: text(rt, alloc, "event"),
+        channels: one(rt, alloc),
+        record_bytes: 2,
+        blocks: SECOND_BLOCK.to_vec(alloc).expect(rt, "memory"),
+        len: 2,
+    };
+    vec![in alloc; first, second].expect(rt, "memory")
 }
 
-/// A file of which the records were written first, or the fault.
-fn streamed_file(alloc: Global, about: &About) -> Result<Vec<u8>, MdfFault> {
-    let end = file_end(alloc, about, 288, &streamed(alloc)?)?;
-    let mut out = end.front;
+/// A file of which the records were written first.
+fn streamed_file(rt: &impl Abort, alloc: Global, about: &About) -> Vec<u8> {
+    let end = file_end(alloc, about, 288, &streamed(rt, alloc)).expect(rt, "an end");
     let rows: [&[u8]; 3] = [&QUARTERS, &LATER, &[0x12, 0x34]];
+    let mut out = end.front;
     for records in rows {
-        out.extend_from_slice(&data_bytes(alloc, records)?)?;
+        let bytes = data_bytes(alloc, records).expect(rt, "bytes of records");
+        out.extend_from_slice(&bytes).expect(rt, "memory");
     }
-    out.extend_from_slice(&end.behind)?;
-    Ok(out)
+    out.extend_from_slice(&end.behind).expect(rt, "memory");
+    out
 }
 
 #[test]
-fn records_that_stand_in_front_are_those_of_the_groups(rt: HostRuntime) -> Result<(), Fail> {
-    let alloc = rt.alloc();
-    let about = About {
-        start: START,
-        program: *b"nerthogl",
-        comment: COMMENT.to_owned(alloc)?,
-    };
-    let bytes = match streamed_file(alloc, &about) {
-        Ok(bytes) => bytes,
-        Err(_) => Vec::new(alloc),
-    };
+fn records_that_stand_in_front_are_those_of_the_groups(rt: HostRuntime) {
+    let about = about(&rt, rt.alloc());
+    let bytes = streamed_file(&rt, rt.alloc(), &about);
     holds(&rt, bytes.as_slice() == FILE, "the file");
-    Ok(())
 }

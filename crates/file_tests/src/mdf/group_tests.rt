@@ -1,8 +1,8 @@
 //! Records and channels against bytes and places that are worked out from the format.
-ghost use Rattle.std.specs.Prelude.{◌≡◌, IfOk, length};
+ghost use Rattle.std.specs.Prelude.{◌≡◌, length};
 
 use crate::holds::holds;
-use mdf_blocks::{Axis, ChannelKind, ConversionKind, ValueFormat};
+use mdf_blocks::{Axis, ChannelKind, ConversionKind, ValueFormat, ValuePlace};
 use mdf_file::NewChannel;
 use mdf_groups::{
     FormFault, Front, PlacedColumn, RecordFault, RecordForm, RecordTime, channels_of, is_lost,
@@ -11,9 +11,8 @@ use mdf_groups::{
 use measured_values::{
     BitOperation, ByteOrder, Conversion, DataType, Encoding, TextRow, TextTable, Tick, ValueLimits,
 };
-use std::alloc::{AllocError, Global};
+use std::alloc::Global;
 use std::process::Abort;
-use std::test::Fail;
 use value_tables::Column;
 
 const INTEL: ByteOrder = ByteOrder::MsbLast;
@@ -79,97 +78,94 @@ fn placed(row: &Row, operation: Option<BitOperation>) -> PlacedColumn<'static> {
     }
 }
 
-pub fn columns(alloc: Global) -> Result<Vec<PlacedColumn<'static>>, AllocError> {
-    let mut columns = Vec::new(alloc);
-    for row in &ROWS {
-        columns.push(placed(row, None))?;
-    }
-    Ok(columns)
+pub fn columns(rt: &impl Abort, alloc: Global) -> Vec<PlacedColumn<'static>> {
+    let columns = ROWS.iter().map(|row| placed(row, None)).collect(alloc);
+    columns.expect(rt, "memory")
 }
 
 /// The form of the records of these columns.
-fn form(alloc: Global, front: Front, columns: &[PlacedColumn<'_>]) -> Result<RecordForm, AllocError>
-    ensures { IfOk result (λ form. length form.places ≡ length columns.now) }
+fn form(rt: &impl Abort, alloc: Global, front: Front, columns: &[PlacedColumn<'_>]) -> RecordForm
+    ensures { length result.places ≡ length columns.now }
 {
-    match RecordForm::of(alloc, front, 10, columns) {
-        Ok(form) => Ok(form),
-        Err(_) => Err(AllocError),
-    }
+    RecordForm::of(alloc, front, 10, columns).expect(rt, "a form")
+}
+
+/// That of a form of 27 bytes a record is written, and two are refused.
+fn writes_one_of_three(rt: &impl Abort, form: &RecordForm, out: &mut Vec<u8>) {
+    let written = form.write_record(out, RecordTime::Seconds(1.5), 1, &SAMPLE);
+    holds(rt, written == Ok(()), "a record");
+    holds(rt, out.as_slice() == RECORD.as_slice(), "its bytes");
+    let late = form.write_record(out, RecordTime::Unknown, 0, &SAMPLE);
+    holds(rt, late == Err(RecordFault::WrongTime), "no time");
+    let short = form.write_record(out, RecordTime::Seconds(2.0), 0, &SAMPLE[1..]);
+    let what = "part of a sample";
+    holds(rt, short == Err(RecordFault::WrongLength), what);
+    holds(rt, out.len() == 27, "nothing more");
 }
 
 #[test]
-fn a_record_is_front_mark_sample_and_values(rt: HostRuntime) -> Result<(), Fail> {
+fn a_record_is_front_mark_sample_and_values(rt: HostRuntime) {
     let alloc = rt.alloc();
-    let form = form(alloc, Front::Seconds, &columns(alloc)?)?;
+    let form = form(&rt, alloc, Front::Seconds, &columns(&rt, alloc));
     holds(&rt, form.record_bytes() == 27, "the length of a record");
-    let mut out = Vec::new(alloc);
-    let written = form.write_record(&mut out, RecordTime::Seconds(1.5), 1, &SAMPLE);
-    holds(&rt, written == Ok(()), "a record");
-    holds(&rt, out.as_slice() == RECORD.as_slice(), "its bytes");
+    writes_one_of_three(&rt, &form, &mut Vec::new(alloc));
+}
 
-    let late = form.write_record(&mut out, RecordTime::Unknown, 0, &SAMPLE);
-    holds(&rt, late == Err(RecordFault::WrongTime), "no time");
-    let short = form.write_record(&mut out, RecordTime::Seconds(2.0), 0, &SAMPLE[1..]);
-    holds(
-        &rt,
-        short == Err(RecordFault::WrongLength),
-        "part of a sample",
-    );
-    holds(&rt, out.len() == 27, "nothing more");
-    Ok(())
+/// That ticks stand before the mark.
+fn ticks_have_their_bytes(rt: &impl Abort, ticks: &RecordForm, out: &mut Vec<u8>) {
+    let written = ticks.write_record(out, RecordTime::Ticks(0x0102), 2, &SAMPLE);
+    holds(rt, written == Ok(()), "a record of ticks");
+    let has_ticks = out[..10] == [2, 1, 0, 0, 0, 0, 0, 0, 2, 1];
+    holds(rt, has_ticks, "its bytes");
+}
+
+/// That nothing stands before the mark.
+fn nothing_has_no_bytes(rt: &impl Abort, nothing: &RecordForm, out: &mut Vec<u8>) {
+    let written = nothing.write_record(out, RecordTime::Unknown, 3, &SAMPLE);
+    holds(rt, written == Ok(()), "a record without a time");
+    holds(rt, out[..3] == [3, 1, 2], "its bytes");
+    holds(rt, nothing.record_bytes() == 11, "its length");
 }
 
 #[test]
-fn fronts_have_their_bytes(rt: HostRuntime) -> Result<(), Fail> {
+fn fronts_have_their_bytes(rt: HostRuntime) {
     let alloc = rt.alloc();
     let columns = [placed(&ROWS[0], None)];
     let mut out = Vec::new(alloc);
-    let ticks = form(alloc, Front::Ticks, &columns)?;
-    let written = ticks.write_record(&mut out, RecordTime::Ticks(0x0102), 2, &SAMPLE);
-    holds(&rt, written == Ok(()), "a record of ticks");
-    holds(
-        &rt,
-        out[..10] == [2, 1, 0, 0, 0, 0, 0, 0, 2, 1],
-        "its bytes",
-    );
+    ticks_have_their_bytes(&rt, &form(&rt, alloc, Front::Ticks, &columns), &mut out);
     out.clear();
-    let nothing = form(alloc, Front::Nothing, &columns)?;
-    let written = nothing.write_record(&mut out, RecordTime::Unknown, 3, &SAMPLE);
-    holds(&rt, written == Ok(()), "a record without a time");
-    holds(&rt, out[..3] == [3, 1, 2], "its bytes");
-    holds(&rt, nothing.record_bytes() == 11, "its length");
-    Ok(())
+    nothing_has_no_bytes(&rt, &form(&rt, alloc, Front::Nothing, &columns), &mut out);
 }
 
-#[test]
-fn a_value_behind_an_operation_stands_behind_the_sample(rt: HostRuntime) -> Result<(), Fail> {
-    let alloc = rt.alloc();
-    let shift = BitOperation {
-        left: 0,
-        right: 1,
-        extends_sign: true,
-    };
-    let column = placed(&ROWS[4], Some(shift));
-    let form = form(alloc, Front::Nothing, &[column])?;
-    let mut out = Vec::new(alloc);
-    let written = form.write_record(&mut out, RecordTime::Unknown, 0, &SAMPLE);
-    holds(&rt, written == Ok(()), "a record");
-    holds(&rt, out[11..] == [0xFF; 8], "the value");
-    let place = form.places()[0];
-    holds(
-        &rt,
-        place.format == ValueFormat::Signed(INTEL),
-        "its format",
-    );
-    holds(&rt, place.byte_offset == 11, "its place");
+/// That of a form of one value it stands behind the sample.
+fn value_stands_behind(rt: &impl Abort, form: &RecordForm, out: &mut Vec<u8>) {
+    let written = form.write_record(out, RecordTime::Unknown, 0, &SAMPLE);
+    holds(rt, written == Ok(()), "a record");
+    holds(rt, out[11..] == [0xFF; 8], "the value");
+}
 
-    let outside = RecordForm::of(alloc, Front::Nothing, 7, &[column]);
-    holds(
-        &rt,
-        matches!(outside, Err(FormFault::Outside)),
-        "a value outside",
-    );
-    Ok(())
+/// That a value stands at this place.
+fn stands_at(rt: &impl Abort, place: ValuePlace, format: ValueFormat, byte_offset: u32) {
+    holds(rt, place.format == format, "its format");
+    holds(rt, place.byte_offset == byte_offset, "its place");
+}
+
+const SHIFT: BitOperation = BitOperation {
+    left: 0,
+    right: 1,
+    extends_sign: true,
+};
+
+#[test]
+fn a_value_behind_an_operation_stands_behind_the_sample(rt: HostRuntime) {
+    let columns = [placed(&ROWS[4], Some(SHIFT))];
+    let form = form(&rt, rt.alloc(), Front::Nothing, &columns);
+    value_stands_behind(&rt, &form, &mut Vec::new(rt.alloc()));
+    stands_at(&rt, form.places()[0], ValueFormat::Signed(INTEL), 11);
+
+    let outside = RecordForm::of(rt.alloc(), Front::Nothing, 7, &columns);
+    let is_refused = matches!(outside, Err(FormFault::Outside));
+    holds(&rt, is_refused, "a value outside");
 }
 
 /// That a channel of values is this.
@@ -185,82 +181,71 @@ fn same(rt: &impl Abort, channel: &NewChannel, found: Found) {
 
 /// The channels of these columns behind a front.
 fn channels_behind(
+    rt: &impl Abort,
     alloc: Global,
     front: Front,
     columns: &[PlacedColumn<'_>],
-) -> Result<Vec<NewChannel>, AllocError> {
-    let form = form(alloc, front, columns)?;
-    channels_of(alloc, &form, columns)
+) -> Vec<NewChannel> {
+    let form = form(rt, alloc, front, columns);
+    channels_of(alloc, &form, columns).expect(rt, "memory")
 }
 
-#[test]
-fn channels_stand_where_the_record_has_their_values(rt: HostRuntime) -> Result<(), Fail> {
-    let alloc = rt.alloc();
-    let seconds = columns(alloc)?;
-    let channels = channels_behind(alloc, Front::Seconds, &seconds)?;
-    holds(&rt, channels.len() == 9, "channels");
-    holds(
-        &rt,
-        channels[0].name.as_str() == "t_2",
-        "the name of the time",
-    );
-    holds(
-        &rt,
-        channels[0].kind == ChannelKind::Master(Axis::Time),
-        "the kind of the time",
-    );
-    holds(&rt, channels[0].bit_count == 64, "the bits of the time");
-    same(
-        &rt,
-        &channels[1],
-        ("overload_2", ValueFormat::Unsigned(INTEL), 8, 0, 8),
-    );
-    for (channel, found) in channels[2..].iter().zip(FOUND) {
-        same(&rt, channel, found);
+/// That the channel of the master is this.
+fn same_master(
+    rt: &impl Abort,
+    channel: &NewChannel,
+    name: &str,
+    kind: ChannelKind,
+    bit_count: u32,
+) {
+    holds(rt, channel.name.as_str() == name, "the name of the master");
+    holds(rt, channel.kind == kind, "the kind of the master");
+    let is_so_long = channel.bit_count == bit_count;
+    holds(rt, is_so_long, "the bits of the master");
+}
+
+/// That channels of values are these.
+fn same_values(rt: &impl Abort, channels: &[NewChannel], found: &[Found]) {
+    for (channel, found) in channels.iter().zip(found) {
+        same(rt, channel, *found);
     }
-    Ok(())
 }
 
 #[test]
-fn channels_without_a_tick_have_an_index(rt: HostRuntime) -> Result<(), Fail> {
-    let columns = [placed(&ROWS[0], None)];
-    let channels = channels_behind(rt.alloc(), Front::Ticks, &columns)?;
-    holds(&rt, channels.len() == 4, "channels without a tick");
-    holds(
-        &rt,
-        channels[0].name.as_str() == "index",
-        "the name of the index",
-    );
-    holds(
-        &rt,
-        channels[0].kind == ChannelKind::VirtualMaster(Axis::Index),
-        "the kind of the index",
-    );
-    holds(&rt, channels[0].bit_count == 0, "the bits of the index");
-    same(
-        &rt,
-        &channels[1],
-        ("ticks", ValueFormat::Unsigned(INTEL), 0, 0, 64),
-    );
-    same(
-        &rt,
-        &channels[2],
-        ("overload", ValueFormat::Unsigned(INTEL), 8, 0, 8),
-    );
-    same(
-        &rt,
-        &channels[3],
-        ("speed", ValueFormat::Unsigned(MOTOROLA), 9, 0, 16),
-    );
-    Ok(())
+fn channels_stand_where_the_record_has_their_values(rt: HostRuntime) {
+    let columns = columns(&rt, rt.alloc());
+    let channels = channels_behind(&rt, rt.alloc(), Front::Seconds, &columns);
+    holds(&rt, channels.len() == 9, "channels");
+    let kind = ChannelKind::Master(Axis::Time);
+    same_master(&rt, &channels[0], "t_2", kind, 64);
+    let overload = ("overload_2", ValueFormat::Unsigned(INTEL), 8, 0, 8);
+    same(&rt, &channels[1], overload);
+    same_values(&rt, &channels[2..], &FOUND);
 }
 
-fn row(alloc: Global, least: f64, greatest: f64, text: &str) -> Result<TextRow, AllocError> {
-    Ok(TextRow {
+/// The channels of values without a tick.
+const WITHOUT_TICK: [Found; 3] = [
+    ("ticks", ValueFormat::Unsigned(INTEL), 0, 0, 64),
+    ("overload", ValueFormat::Unsigned(INTEL), 8, 0, 8),
+    ("speed", ValueFormat::Unsigned(MOTOROLA), 9, 0, 16),
+];
+
+#[test]
+fn channels_without_a_tick_have_an_index(rt: HostRuntime) {
+    let columns = [placed(&ROWS[0], None)];
+    let channels = channels_behind(&rt, rt.alloc(), Front::Ticks, &columns);
+    holds(&rt, channels.len() == 4, "channels without a tick");
+    let kind = ChannelKind::VirtualMaster(Axis::Index);
+    same_master(&rt, &channels[0], "index", kind, 0);
+    same_values(&rt, &channels[1..], &WITHOUT_TICK);
+}
+
+fn row(rt: &impl Abort, alloc: Global, least: f64, greatest: f64, text: &str) -> TextRow {
+    TextRow {
         least,
         greatest,
-        text: String::from_str(alloc, text)?,
-    })
+        text: text.to_owned(alloc).expect(rt, "memory"),
+    }
 }
 
 const LIMITS: ValueLimits = ValueLimits {
@@ -276,9 +261,9 @@ fn says(text: &Option<String>, wanted: &str) -> bool {
     }
 }
 
-/// The channel of a byte with a conversion, the unit V, a long identifier, and limits.
-fn converted(alloc: Global, conversion: &Conversion) -> Result<(NewChannel, bool), AllocError> {
-    let column = PlacedColumn {
+/// A byte with a conversion, the unit V, a long identifier, and limits.
+fn convertible(conversion: &Conversion) -> PlacedColumn<'_> {
+    PlacedColumn {
         column: Column {
             name: "u",
             identifier: "supply",
@@ -289,95 +274,87 @@ fn converted(alloc: Global, conversion: &Conversion) -> Result<(NewChannel, bool
             limits: Some(LIMITS),
         },
         at: 9,
-    };
-    let lost = is_lost(alloc, &column.column)?;
-    let columns = [column];
-    let form = form(alloc, Front::Nothing, &columns)?;
-    let mut channels = channels_of(alloc, &form, &columns)?;
-    match channels.pop() {
-        Some(channel) => Ok((channel, lost)),
-        None => Err(AllocError),
     }
 }
 
+/// The channel of a byte with a conversion, and whether that is lost.
+fn converted(rt: &impl Abort, alloc: Global, conversion: &Conversion) -> (NewChannel, bool) {
+    let columns = [convertible(conversion)];
+    let lost = is_lost(alloc, &columns[0].column).expect(rt, "memory");
+    let mut channels = channels_behind(rt, alloc, Front::Nothing, &columns);
+    (channels.pop().expect(rt, "a channel"), lost)
+}
+
+/// That a conversion is of this kind, with these numbers and texts.
+fn same_conversion(
+    rt: &impl Abort,
+    channel: &NewChannel,
+    kind: ConversionKind,
+    values: &[f64],
+    texts: &[&str],
+) {
+    let conversion = channel.conversion.as_ref().expect(rt, "a conversion");
+    holds(rt, conversion.kind == kind, "the kind");
+    holds(rt, conversion.values.as_slice() == values, "the numbers");
+    holds(rt, conversion.texts.len() == texts.len(), "so many texts");
+    for (text, wanted) in conversion.texts.iter().zip(texts) {
+        holds(rt, says(text, wanted), wanted);
+    }
+}
+
+/// That a channel has this unit and comment.
+fn same_texts(rt: &impl Abort, channel: &NewChannel, unit: &str, comment: &str) {
+    holds(rt, says(&channel.unit, unit), "the unit");
+    holds(rt, says(&channel.comment, comment), "the comment");
+}
+
 #[test]
-fn conversions_have_their_numbers_and_texts(rt: HostRuntime) -> Result<(), Fail> {
-    let alloc = rt.alloc();
+fn conversions_have_their_numbers_and_texts(rt: HostRuntime) {
     let linear = Conversion::Linear {
         factor: 0.5,
         offset: -40.0,
     };
-    let (channel, lost) = converted(alloc, &linear)?;
+    let (channel, lost) = converted(&rt, rt.alloc(), &linear);
     holds(&rt, !lost, "nothing is lost");
-    holds(&rt, says(&channel.unit, "V"), "the unit");
-    holds(&rt, says(&channel.comment, "supply"), "the comment");
-    match &channel.conversion {
-        Some(conversion) => {
-            holds(&rt, conversion.kind == ConversionKind::Linear, "the kind");
-            holds(
-                &rt,
-                conversion.values.as_slice() == [-40.0, 0.5].as_slice(),
-                "the numbers",
-            );
-            holds(&rt, conversion.texts.len() == 0, "no texts");
-        }
-        None => holds(&rt, false, "linear"),
-    }
-    match channel.limits {
-        Some(limits) => {
-            holds(&rt, limits.least == -40.0, "the least");
-            holds(&rt, limits.greatest == 87.5, "the greatest");
-        }
-        None => holds(&rt, false, "limits"),
-    }
-    Ok(())
+    same_texts(&rt, &channel, "V", "supply");
+    let kind = ConversionKind::Linear;
+    same_conversion(&rt, &channel, kind, &[-40.0, 0.5], &[]);
+    let limits = channel.limits.expect(&rt, "limits");
+    holds(&rt, limits.least == -40.0, "the least");
+    holds(&rt, limits.greatest == 87.5, "the greatest");
 }
 
 #[test]
-fn raw_values_have_no_limits(rt: HostRuntime) -> Result<(), Fail> {
-    let alloc = rt.alloc();
-    let (channel, lost) = converted(alloc, &Conversion::Other)?;
+fn raw_values_have_no_limits(rt: HostRuntime) {
+    let (channel, lost) = converted(&rt, rt.alloc(), &Conversion::Other);
     holds(&rt, lost, "it is lost");
-    holds(&rt, says(&channel.unit, "raw"), "the unit");
-    holds(&rt, says(&channel.comment, "supply"), "the comment");
+    same_texts(&rt, &channel, "raw", "supply");
     holds(&rt, channel.conversion.is_none(), "no conversion");
     holds(&rt, channel.limits.is_none(), "no limits");
-    Ok(())
 }
 
 /// Two ranges that fall, and a default.
-fn ranges(alloc: Global) -> Result<Conversion, AllocError> {
-    let mut rows = Vec::new(alloc);
-    rows.push(row(alloc, 10.0, 19.0, "high")?)?;
-    rows.push(row(alloc, 0.0, 9.0, "low")?)?;
-    let other = Some(String::from_str(alloc, "none")?);
-    Ok(Conversion::Texts(TextTable { rows, other }))
+fn ranges(rt: &impl Abort, alloc: Global) -> Conversion {
+    let high = row(rt, alloc, 10.0, 19.0, "high");
+    let low = row(rt, alloc, 0.0, 9.0, "low");
+    let other = "none".to_owned(alloc).expect(rt, "memory");
+    Conversion::Texts(TextTable {
+        rows: vec![in alloc; high, low].expect(rt, "memory"),
+        other: Some(other),
+    })
 }
 
 #[test]
-fn ranges_have_their_bounds_and_the_default(rt: HostRuntime) -> Result<(), Fail> {
-    let (channel, _) = converted(rt.alloc(), &ranges(rt.alloc())?)?;
-    let Some(conversion) = &channel.conversion else {
-        return Err(Fail::from("no conversion"));
-    };
-    holds(
+fn ranges_have_their_bounds_and_the_default(rt: HostRuntime) {
+    let ranges = ranges(&rt, rt.alloc());
+    let (channel, _) = converted(&rt, rt.alloc(), &ranges);
+    same_conversion(
         &rt,
-        conversion.kind == ConversionKind::RangesToTexts,
-        "the kind",
+        &channel,
+        ConversionKind::RangesToTexts,
+        &[0.0, 9.0, 10.0, 19.0],
+        &["low", "high", "none"],
     );
-    holds(
-        &rt,
-        conversion.values.as_slice() == [0.0, 9.0, 10.0, 19.0].as_slice(),
-        "the bounds",
-    );
-    for (text, wanted) in conversion.texts.iter().zip(["low", "high", "none"]) {
-        match text {
-            Some(text) => holds(&rt, text.as_str() == wanted, wanted),
-            None => holds(&rt, false, wanted),
-        }
-    }
-    holds(&rt, conversion.texts.len() == 3, "the number of texts");
-    Ok(())
 }
 
 #[test]

@@ -2,9 +2,8 @@
 use crate::holds::holds;
 use mdf_blocks::{PlacedText, Rule, bounds_of, keys_of, rule_of};
 use measured_values::{Conversion, TextRow, TextTable};
-use std::alloc::{AllocError, Global};
+use std::alloc::Global;
 use std::process::Abort;
-use std::test::Fail;
 
 /// Rows of a table, by their least and greatest numbers.
 type Rows = &'static [(f64, f64)];
@@ -12,29 +11,39 @@ type Rows = &'static [(f64, f64)];
 /// Places, by least and greatest number and row.
 type Places = &'static [(f64, f64, usize)];
 
-fn table(alloc: Global, rows: Rows) -> Result<Conversion, AllocError> {
-    let mut table = TextTable {
-        rows: Vec::new(alloc),
-        other: None,
-    };
-    for (least, greatest) in rows {
-        let text = String::from_str(alloc, "text")?;
-        table.rows.push(TextRow {
-            least: *least,
-            greatest: *greatest,
-            text,
-        })?;
+fn row(rt: &impl Abort, alloc: Global, least: f64, greatest: f64) -> TextRow {
+    TextRow {
+        least,
+        greatest,
+        text: "text".to_owned(alloc).expect(rt, "memory"),
     }
-    Ok(Conversion::Texts(table))
+}
+
+fn table(rt: &impl Abort, alloc: Global, rows: Rows) -> Conversion {
+    let mut table = Vec::new(alloc);
+    for (least, greatest) in rows {
+        let row = row(rt, alloc, *least, *greatest);
+        table.push(row).expect(rt, "memory");
+    }
+    Conversion::Texts(TextTable {
+        rows: table,
+        other: None,
+    })
+}
+
+/// That a place is this.
+fn same_place(rt: &impl Abort, name: &str, place: &PlacedText, wanted: (f64, f64, usize)) {
+    let (least, greatest, row) = wanted;
+    holds(rt, place.least == least, name);
+    holds(rt, place.greatest == greatest, name);
+    holds(rt, place.row == row, name);
 }
 
 /// That places are these.
 fn same(rt: &impl Abort, name: &str, places: &[PlacedText], wanted: Places) {
     holds(rt, places.len() == wanted.len(), name);
-    for (place, (least, greatest, row)) in places.iter().zip(wanted) {
-        holds(rt, place.least == *least, name);
-        holds(rt, place.greatest == *greatest, name);
-        holds(rt, place.row == *row, name);
+    for (place, wanted) in places.iter().zip(wanted) {
+        same_place(rt, name, place, *wanted);
     }
 }
 
@@ -81,6 +90,12 @@ const LOST: [(&str, Rows); 2] = [
     ),
 ];
 
+/// The rule of the table of these rows.
+fn rule(rt: &impl Abort, alloc: Global, rows: Rows, whole: bool) -> Rule {
+    let table = table(rt, alloc, rows);
+    rule_of(alloc, &table, whole).expect(rt, "memory")
+}
+
 /// That a rule has these places, each with one number.
 fn has_values(rt: &impl Abort, name: &str, rule: &Rule, wanted: Places) {
     match rule {
@@ -98,85 +113,86 @@ fn has_ranges(rt: &impl Abort, name: &str, rule: &Rule, wanted: Places) {
 }
 
 #[test]
-fn tables_of_texts_rise(rt: HostRuntime) -> Result<(), Fail> {
-    let alloc = rt.alloc();
+fn tables_of_texts_rise(rt: HostRuntime) {
     for (name, rows, wanted) in VALUES {
-        let rule = rule_of(alloc, &table(alloc, rows)?, false)?;
+        let rule = rule(&rt, rt.alloc(), rows, false);
         has_values(&rt, name, &rule, wanted);
     }
     for (name, rows, wanted) in RANGES {
-        let rule = rule_of(alloc, &table(alloc, rows)?, true)?;
+        let rule = rule(&rt, rt.alloc(), rows, true);
         has_ranges(&rt, name, &rule, wanted);
     }
-    Ok(())
+}
+
+/// That a rule says that a conversion is lost.
+fn is_lost(rt: &impl Abort, name: &str, rule: &Rule) {
+    holds(rt, matches!(rule, Rule::Lost), name);
 }
 
 #[test]
-fn what_mdf_cannot_say_is_lost(rt: HostRuntime) -> Result<(), Fail> {
+fn what_mdf_cannot_say_is_lost(rt: HostRuntime) {
     let alloc = rt.alloc();
-    for (name, rows) in &LOST {
-        let rule = rule_of(alloc, &table(alloc, rows)?, true)?;
-        holds(&rt, matches!(rule, Rule::Lost), name);
+    for (name, rows) in LOST {
+        is_lost(&rt, name, &rule(&rt, alloc, rows, true));
     }
-    let halves = table(alloc, &[(0.0, 9.0)])?;
-    holds(
-        &rt,
-        matches!(rule_of(alloc, &halves, false)?, Rule::Lost),
-        "not whole",
-    );
-    holds(
-        &rt,
-        matches!(rule_of(alloc, &Conversion::Other, true)?, Rule::Lost),
-        "other",
-    );
-    Ok(())
+    is_lost(&rt, "not whole", &rule(&rt, alloc, &[(0.0, 9.0)], false));
+    let other = rule_of(alloc, &Conversion::Other, true);
+    is_lost(&rt, "other", &other.expect(&rt, "memory"));
+}
+
+/// That a rule is linear with these numbers.
+fn is_linear(rt: &impl Abort, rule: &Rule, wanted: [f64; 2]) {
+    match rule {
+        Rule::Linear(numbers) => holds(rt, *numbers == wanted, "linear"),
+        _ => holds(rt, false, "linear"),
+    }
+}
+
+/// That a rule is rational with these numbers.
+fn is_rational(rt: &impl Abort, rule: &Rule, wanted: [f64; 6]) {
+    match rule {
+        Rule::Rational(numbers) => holds(rt, *numbers == wanted, "rational"),
+        _ => holds(rt, false, "rational"),
+    }
 }
 
 #[test]
-fn numbers_stand_where_mdf_has_them(rt: HostRuntime) -> Result<(), Fail> {
-    let alloc = rt.alloc();
+fn numbers_stand_where_mdf_has_them(rt: HostRuntime) {
     let linear = Conversion::Linear {
         factor: 0.5,
         offset: -40.0,
     };
-    match rule_of(alloc, &linear, true)? {
-        Rule::Linear(numbers) => holds(&rt, numbers == [-40.0, 0.5], "linear"),
-        _ => holds(&rt, false, "linear"),
-    }
+    let rule = rule_of(rt.alloc(), &linear, true).expect(&rt, "memory");
+    is_linear(&rt, &rule, [-40.0, 0.5]);
     let rational = Conversion::Rational {
         b: 2.0,
         c: 3.0,
         f: 4.0,
     };
-    match rule_of(alloc, &rational, true)? {
-        Rule::Rational(numbers) => holds(
-            &rt,
-            numbers == [0.0, 4.0, -3.0, 0.0, 0.0, 2.0],
-            "rational",
-        ),
-        _ => holds(&rt, false, "rational"),
-    }
-    let places = [
-        PlacedText {
-            least: 0.0,
-            greatest: 9.0,
-            row: 1,
-        },
-        PlacedText {
-            least: 10.0,
-            greatest: 19.0,
-            row: 0,
-        },
-    ];
-    holds(
-        &rt,
-        keys_of(alloc, &places)?.as_slice() == [0.0, 10.0].as_slice(),
-        "keys",
-    );
-    holds(
-        &rt,
-        bounds_of(alloc, &places)?.as_slice() == [0.0, 9.0, 10.0, 19.0].as_slice(),
-        "bounds",
-    );
-    Ok(())
+    let rule = rule_of(rt.alloc(), &rational, true).expect(&rt, "memory");
+    is_rational(&rt, &rule, [0.0, 4.0, -3.0, 0.0, 0.0, 2.0]);
+}
+
+/// Places of ranges that rise.
+const TWO_PLACES: [PlacedText; 2] = [
+    PlacedText {
+        least: 0.0,
+        greatest: 9.0,
+        row: 1,
+    },
+    PlacedText {
+        least: 10.0,
+        greatest: 19.0,
+        row: 0,
+    },
+];
+
+#[test]
+fn keys_and_bounds_stand_where_mdf_has_them(rt: HostRuntime) {
+    let keys = keys_of(rt.alloc(), &TWO_PLACES).expect(&rt, "memory");
+    let wanted: &[f64] = &[0.0, 10.0];
+    holds(&rt, keys.as_slice() == wanted, "keys");
+    let bounds = bounds_of(rt.alloc(), &TWO_PLACES).expect(&rt, "memory");
+    let wanted: &[f64] = &[0.0, 9.0, 10.0, 19.0];
+    holds(&rt, bounds.as_slice() == wanted, "bounds");
 }

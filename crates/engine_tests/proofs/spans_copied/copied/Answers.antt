@@ -22,10 +22,10 @@ fits n bytes offsets few =
 
 -- they lie in the segment
 pub put_copied-end-requires-clause-inside : goal.put_copied-end-requires-clause-inside
-put_copied-end-requires-clause-inside c =
+put_copied-end-requires-clause-inside g c =
     let inside = c.are_inside.ensures.inside c.if-not-are_inside.false in
     (subst (All (IsSpanAt 32 c.args.size)) (sym (take-length c.args.offsets.now)) inside, tt)
 
 pub put_copied-end-requires-clause-room : goal.put_copied-end-requires-clause-room
-put_copied-end-requires-clause-room c =
+put_copied-end-requires-clause-room g c =
     fits c.args.size _ c.args.offsets.now (c.are_inside.ensures.room c.if-not-are_inside.false)
