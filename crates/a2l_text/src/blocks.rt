@@ -23,7 +23,7 @@ use std::alloc::{AllocError, Global};
 pub const MAX_DEPTH: usize = 64;
 
 /// A block that isn't ended: its name, and the role of what it stands in.
-#[derive(Clone, Copy, Debug)]
+#[derive(Clone, Copy)]
 pub struct OpenBlock<'a> {
     pub name: &'a [u8],
     pub outer: Role,

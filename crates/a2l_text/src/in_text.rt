@@ -8,7 +8,7 @@ ghost use Rattle.a2l_text.specs.Faults.{IsOpenText};
 use crate::split::behind;
 
 /// What stands at a place between two quotes.
-#[derive(Clone, Copy, PartialEq, Eq)]
+#[derive(Clone, Copy)]
 pub(crate) enum Letter {
     /// A byte that stands for itself.
     Own,

@@ -3,7 +3,7 @@ ghost use Rattle.std.specs.Prelude.{◌≡◌};
 ghost use Rattle.a2l_text.specs.Kinds.{is_blank, kind_of, kind_of_slash};
 
 /// What begins at a place of a text.
-#[derive(Clone, Copy, PartialEq, Eq)]
+#[derive(Clone, Copy)]
 pub(crate) enum Kind {
     /// The text ends there.
     Nothing,

@@ -21,7 +21,7 @@ use crate::{is, meaning};
 ///
 /// PROJECT is `Project` and MODULE `Module`. IF_DATA is `IfData` up to its word `XCP`, and `Xcp`
 /// from there on. DAQ in it is `Gathered(Part::Daq)`, and DAQ_LIST in that is `PassedOver`.
-#[derive(Clone, Copy, Debug, PartialEq, Eq)]
+#[derive(Clone, Copy)]
 pub enum Role {
     /// No block: the text itself.
     File,

@@ -1,7 +1,7 @@
 //! What the capture's clock says of two timestamps.
 
 /// What the capture's clock says of two timestamps.
-#[derive(Clone, Copy, Debug, PartialEq, Eq)]
+#[derive(Clone, Copy)]
 pub struct Passed {
     /// How many picoseconds a tick is.
     pub tick: u64,

@@ -3,7 +3,7 @@
 use crate::element::Element;
 
 /// What is known of an entry of an ODT.
-#[derive(Clone, Copy, Debug, PartialEq, Eq)]
+#[derive(Clone, Copy)]
 pub enum Entry {
     /// Nothing.
     Open,

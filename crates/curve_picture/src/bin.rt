@@ -6,7 +6,7 @@ use crate::point::Point;
 use crate::stretch::Stretch;
 
 /// What is kept of the values whose places are in one bin.
-#[derive(Clone, Copy, Debug)]
+#[derive(Clone, Copy)]
 pub struct Bin {
     /// The values that are drawn, if there are any.
     pub curve: Option<Stretch>,

@@ -10,7 +10,7 @@ use sample_picture::{BINS, Grid, Ruler, push_tenths};
 use std::alloc::{AllocError, Global};
 
 /// Where the values of a row stand, and how far apart two of them may be, to be joined.
-#[derive(Clone, Copy, Debug)]
+#[derive(Clone, Copy)]
 pub struct Plot {
     pub ruler: Ruler,
     pub heights: Heights,
@@ -20,7 +20,7 @@ pub struct Plot {
 }
 
 /// The values of a bin, and whether samples were dropped before one of them.
-#[derive(Clone, Copy, Debug)]
+#[derive(Clone, Copy)]
 pub struct Piece {
     pub stretch: Stretch,
     pub lost: bool,

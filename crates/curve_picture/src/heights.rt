@@ -10,7 +10,7 @@ pub const TALL: u64 = 640;
 const TALL_NUMBER: f64 = 640.0;
 
 /// The least and the greatest value of a row: the lower and the upper end of its curve.
-#[derive(Clone, Copy, Debug)]
+#[derive(Clone, Copy)]
 pub struct Heights {
     pub least: f64,
     pub greatest: f64,

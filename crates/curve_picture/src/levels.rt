@@ -11,7 +11,7 @@ const UPPER: u64 = 90;
 const BETWEEN: u64 = 130;
 
 /// A text, and where its line is, in tenths of a unit below the upper end of a curve.
-#[derive(Clone, Copy, Debug)]
+#[derive(Clone, Copy)]
 pub struct Level<'t> {
     pub text: &'t str,
     pub line: u64,

@@ -3,7 +3,7 @@ ghost use Rattle.std.specs.Prelude.{◌≡◌};
 ghost use Rattle.curve_picture.specs.Inner.{earlier, later};
 
 /// A value that is drawn, and its place on the axis.
-#[derive(Clone, Copy, Debug)]
+#[derive(Clone, Copy)]
 pub struct Point {
     pub at: u64,
     pub value: f64,

@@ -30,7 +30,7 @@ const POWERS: [u64; 19] = [
 ];
 
 /// How places are counted: each has `factor` counts, and so many counts as `unit` says are one.
-#[derive(Clone, Copy, Debug)]
+#[derive(Clone, Copy)]
 pub struct Scale {
     factor: u64,
     unit: u64,

@@ -6,7 +6,7 @@ use crate::point::Point;
 
 /// The least and the greatest of some values, and those at their first and their last place. No
 /// value is NaN or infinite.
-#[derive(Clone, Copy, Debug)]
+#[derive(Clone, Copy)]
 pub struct Stretch {
     pub least: f64,
     pub greatest: f64,

@@ -11,7 +11,7 @@ use std::marker::Model;
 
 /// An entry: where it stands in the image of all memory, its bytes, and where it stands among the
 /// elements of its ODT.
-#[derive(Clone, Copy, Debug)]
+#[derive(Clone, Copy)]
 pub struct Slot {
     pub in_image: usize,
     pub size: u8,

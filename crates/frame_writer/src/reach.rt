@@ -3,7 +3,7 @@ ghost use Rattle.std.specs.Prelude.{◌≡◌};
 ghost use Rattle.frame_writer.specs.Reach.{is_bad_len, reach};
 
 /// How far bytes that begin a frame reach.
-#[derive(Clone, Copy, Debug, PartialEq, Eq)]
+#[derive(Clone, Copy)]
 pub enum Reach {
     /// Bytes of it are still to come.
     Part,

@@ -11,7 +11,7 @@ use crate::span::Span;
 use std::alloc::{AllocError, Global};
 
 /// Which bins are drawn.
-#[derive(Clone, Copy, Debug, PartialEq, Eq)]
+#[derive(Clone, Copy)]
 pub enum Band {
     /// Those with a sample.
     Samples,

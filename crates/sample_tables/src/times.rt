@@ -8,7 +8,7 @@ use std::alloc::{AllocError, Global};
 use xcp_base::StampSize;
 
 /// The ticks of a timestamp, and the time that they stand for.
-#[derive(Clone, Copy, Debug, PartialEq, Eq)]
+#[derive(Clone, Copy)]
 pub struct Stand {
     /// The ticks, as they stand in the packet.
     pub ticks: u32,

@@ -12,8 +12,7 @@ use frame_ring::BLOCK;
 use frame_ring::limits::{MAX_FRAME_RING, MIN_FRAME_RING};
 use segments::limits::MAX_READERS;
 use segments::{Segment, SegmentFault, Segments};
-use std::error::Error;
-use std::fmt::{self, Display};
+use thiserror::Error;
 use xcp_base::limits::{MAX_CHANNELS, MAX_CTO, MAX_PACKET, MAX_UNIT, MIN_CTO, MIN_DTO};
 use xcp_base::{IdKind, StampSize};
 
@@ -48,50 +47,37 @@ pub struct Profile {
 
 /// Which limit a profile is out of. The variants stand in the order of the checks; that the reply
 /// to GET_ID has no room for the name is looked for behind MAX_CTO.
-#[derive(Clone, Copy, Debug, PartialEq, Eq)]
+#[derive(Clone, Copy, Debug, PartialEq, Eq, Error)]
 pub enum ProfileFault {
+    #[error("there are no event channels, or more than 16")]
     Channels,
+    #[error("timestamps have no size of 1, 2 or 4 bytes")]
     StampSize,
+    #[error("a unit of time is over 9")]
     Unit,
+    #[error("a timestamp has no ticks")]
     Ticks,
+    #[error("the capacity of a ring is out of its limits")]
     Capacity,
+    #[error("a name is too long, or not of printable ASCII")]
     Name,
+    #[error("the name of an event channel is too long, or not of printable ASCII")]
     EventName,
+    #[error("the unit of a cycle is over 9")]
     CycleUnit,
+    #[error("{0}")]
     Segments(SegmentFault),
+    #[error("MAX_CTO is not 8 to 255")]
     MaxCto,
+    #[error("MAX_DTO is not 8 to 8192")]
     MaxDto,
+    #[error("the name of the A2L file is too long, or not of printable ASCII")]
     A2lName,
+    #[error("the EPK is too long, or not of printable ASCII")]
     Epk,
+    #[error("the A2L file has 2^32 bytes or more")]
     A2l,
 }
-
-impl Display for ProfileFault {
-    fn fmt<W: fmt::Write>(&self, f: &mut fmt::Formatter<W>) -> fmt::Result {
-        f.write_str(match self {
-            ProfileFault::Channels => "there are no event channels, or more than 16",
-            ProfileFault::StampSize => "timestamps have no size of 1, 2 or 4 bytes",
-            ProfileFault::Unit => "a unit of time is over 9",
-            ProfileFault::Ticks => "a timestamp has no ticks",
-            ProfileFault::Capacity => "the capacity of a ring is out of its limits",
-            ProfileFault::Name => "a name is too long, or not of printable ASCII",
-            ProfileFault::EventName => {
-                "the name of an event channel is too long, or not of printable ASCII"
-            }
-            ProfileFault::CycleUnit => "the unit of a cycle is over 9",
-            ProfileFault::Segments(fault) => return Display::fmt(fault, f),
-            ProfileFault::MaxCto => "MAX_CTO is not 8 to 255",
-            ProfileFault::MaxDto => "MAX_DTO is not 8 to 8192",
-            ProfileFault::A2lName => {
-                "the name of the A2L file is too long, or not of printable ASCII"
-            }
-            ProfileFault::Epk => "the EPK is too long, or not of printable ASCII",
-            ProfileFault::A2l => "the A2L file has 2^32 bytes or more",
-        })
-    }
-}
-
-impl Error for ProfileFault {}
 
 impl Profile {
     /// The first limit that it is out of, if there is one.

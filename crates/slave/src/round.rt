@@ -4,7 +4,7 @@ ghost use Rattle.std.specs.Prelude.{◌≡◌, ◌<◌, ◌≢◌, ◌⊎◌, tr
 use slave_outbox::Step;
 
 /// How a round over the rings of the newest measurement ended.
-#[derive(Clone, Copy, Debug, PartialEq, Eq)]
+#[derive(Clone, Copy)]
 pub enum Round {
     /// A sample found no room.
     HeldUp,

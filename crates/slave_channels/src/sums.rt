@@ -9,7 +9,7 @@ use crate::totals::{NONE, Totals};
 pub const LAST: u64 = 4;
 
 /// The sums of one DAQ list number: of each of the last four measurements, and of all before.
-#[derive(Clone, Copy, Debug, PartialEq, Eq)]
+#[derive(Clone, Copy)]
 pub struct Sums {
     /// Of the last measurement.
     pub last: Totals,

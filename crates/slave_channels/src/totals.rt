@@ -4,7 +4,7 @@ ghost use Rattle.slave_channels.specs.AccountInner.{joined, moved, plus};
 
 use daq_engine::ListReport;
 /// The sums of the lines of one DAQ list number, modulo 2^64.
-#[derive(Clone, Copy, Debug, PartialEq, Eq)]
+#[derive(Clone, Copy)]
 pub struct Totals {
     /// The samples that were due.
     pub due: u64,

@@ -8,7 +8,7 @@ use daq_reader::ListShape;
 use measured_values::DataType;
 
 /// Where the bytes of a value stand in the samples of a DAQ list.
-#[derive(Clone, Copy, Debug, PartialEq, Eq)]
+#[derive(Clone, Copy)]
 pub struct Source {
     /// The ODT.
     pub odt: usize,

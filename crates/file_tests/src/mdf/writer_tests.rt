@@ -1,5 +1,5 @@
 //! Files that are written record by record.
-ghost use Rattle.std.specs.Prelude.{◌≡◌, ◌<◌, [], IfSome, None};
+ghost use Rattle.std.specs.Prelude.{◌≡◌, [], IfSome, None};
 
 use crate::holds::holds;
 use crate::mdf::file_tests::{LATER, QUARTERS, about, one, text, two};
@@ -77,9 +77,8 @@ fn a_written_file_has_the_bytes_of_the_tables(rt: HostRuntime) {
 }
 
 /// That a data block of this length stands at a place.
-fn has_data(rt: &impl Abort, bytes: &[u8], place: usize, len: u8)
-    requires { place < 1000 }
-{
+fn has_data(rt: &impl Abort, bytes: &[u8], place: u16, len: u8) {
+    let place = usize::from(place);
     let is_there = bytes.get(place..place + 4) == Some(&b"##DT"[..]);
     holds(rt, is_there, "a data block");
     holds(rt, bytes.get(place + 8) == Some(&len), "its length");
