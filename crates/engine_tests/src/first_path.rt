@@ -31,7 +31,7 @@ type Run = (
     &'static [u8],
 );
 
-const RUNS: [Run; 5] = [
+const RUNS: &[Run] = &[
     (
         "two images are two frames",
         &TWO_IMAGES,
@@ -76,6 +76,6 @@ fn writes(rt: &impl Abort, alloc: Global, run: Run) {
 #[test]
 fn a_run_writes_the_frames_of_its_images(rt: HostRuntime) {
     for run in RUNS {
-        writes(&rt, rt.alloc(), run);
+        writes(&rt, rt.alloc(), *run);
     }
 }

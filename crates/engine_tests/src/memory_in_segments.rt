@@ -123,10 +123,8 @@ fn are_read(rt: &impl Abort, segments: &Segments, memory: &[&[u8]], reads: &[Rea
 #[test]
 fn bytes_are_read_of_the_segment_that_they_lie_in(rt: HostRuntime) {
     let segments = Segments::new(&apart(), 1).expect(&rt, "segments");
-    let memory: [&[u8]; 3] = [&LOW, &NOT_READ, &OTHER];
-    are_read(&rt, &segments, &memory, OF_APART);
-    let without: [&[u8]; 3] = [&LOW, &[], &OTHER];
-    let read = segments.read(&without, 0, 0x2000, 2);
+    are_read(&rt, &segments, &[&LOW, &NOT_READ, &OTHER], OF_APART);
+    let read = segments.read(&[&LOW, &[], &OTHER], 0, 0x2000, 2);
     same(
         &rt,
         read,
@@ -160,26 +158,28 @@ fn segments_that_touch_are_two(rt: HostRuntime) {
 
 /// Memory that a segment has, what of it is asked for by event channel 0, and whether it may read
 /// that.
-const READABLE: [(&str, u8, usize, usize, bool); 3] = [
+const READABLE: &[(&str, u8, usize, usize, bool)] = &[
     ("its own", 0, 0x1000, 2, true),
     ("another extension", 1, 2, 2, true),
     ("another's", 0, 0x2000, 1, false),
+];
+
+/// Memory, and whether it fits the segments for event channel 0.
+const FITTING: &[(&str, &[&[u8]], bool)] = &[
+    ("what it reads", &[&LOW, &[], &OTHER], true),
+    ("one too short", &[&LOW, &NOT_READ, &[]], false),
+    ("a slice too few", &[&LOW, &NOT_READ], false),
 ];
 
 #[test]
 fn an_event_channel_reads_its_own_segments(rt: HostRuntime) {
     let segments = Segments::new(&apart(), 1).expect(&rt, "segments");
     for (row, extension, address, size, wanted) in READABLE {
-        let is_readable = segments.is_readable(0, extension, address, size);
-        same(&rt, is_readable, wanted, row, "is readable");
+        let is_readable = segments.is_readable(0, *extension, *address, *size);
+        same(&rt, is_readable, *wanted, row, "is readable");
     }
-    let memories: [(&str, &[&[u8]], bool); 3] = [
-        ("what it reads", &[&LOW, &[], &OTHER], true),
-        ("one too short", &[&LOW, &NOT_READ, &[]], false),
-        ("a slice too few", &[&LOW, &NOT_READ], false),
-    ];
-    for (row, memory, wanted) in memories {
-        same(&rt, segments.fits(0, memory), wanted, row, "fits");
+    for (row, memory, wanted) in FITTING {
+        same(&rt, segments.fits(0, memory), *wanted, row, "fits");
     }
 }
 

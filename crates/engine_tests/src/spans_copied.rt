@@ -114,24 +114,36 @@ fn copied(rt: &impl Abort, offsets: &[u32], size: usize) -> (usize, [u8; 48]) {
 }
 
 /// Compares what spans copy, and where it ends.
-fn copies(rt: &impl Abort, row: &str, offsets: &[u32], size: usize, end: usize, bytes: [u8; 48]) {
+fn copies(rt: &impl Abort, row: &str, offsets: &[u32], size: usize, end: usize, bytes: &[u8; 48]) {
     let shown = copied(rt, offsets, size);
-    same(rt, shown, (end, bytes), row, "end, bytes");
+    same(rt, shown, (end, *bytes), row, "end, bytes");
 }
+
+/// Spans, how many of them are copied, their size, where they end, and the bytes.
+type Row = (
+    &'static str,
+    &'static [u32],
+    usize,
+    usize,
+    usize,
+    &'static [u8; 48],
+);
+
+const ROWS: &[Row] = &[
+    ("1 of 4 bytes", &OF_FOUR, 1, 4, 6, &ONE_OF_FOUR),
+    ("3 of 4 bytes", &OF_FOUR, 3, 4, 14, &THREE_OF_FOUR),
+    ("4 of 4 bytes", &OF_FOUR, 4, 4, 18, &FOUR_OF_FOUR),
+    ("5 of 4 bytes", &OF_FOUR, 5, 4, 22, &FIVE_OF_FOUR),
+    ("9 of 4 bytes", &OF_FOUR, 9, 4, 38, &NINE_OF_FOUR),
+    ("5 of 1 byte", &OF_ONE, 5, 1, 7, &FIVE_OF_ONE),
+    ("6 of 2 bytes", &OF_TWO, 6, 2, 14, &SIX_OF_TWO),
+    ("5 of 8 bytes", &OF_EIGHT, 5, 8, 42, &FIVE_OF_EIGHT),
+];
 
 #[test]
 fn spans_are_copied_by_fours_and_the_rest_behind_them(rt: HostRuntime) {
-    let rows: [(&str, &[u32], usize, usize, [u8; 48]); 8] = [
-        ("1 of 4 bytes", &OF_FOUR[..1], 4, 6, ONE_OF_FOUR),
-        ("3 of 4 bytes", &OF_FOUR[..3], 4, 14, THREE_OF_FOUR),
-        ("4 of 4 bytes", &OF_FOUR[..4], 4, 18, FOUR_OF_FOUR),
-        ("5 of 4 bytes", &OF_FOUR[..5], 4, 22, FIVE_OF_FOUR),
-        ("9 of 4 bytes", &OF_FOUR, 4, 38, NINE_OF_FOUR),
-        ("5 of 1 byte", &OF_ONE, 1, 7, FIVE_OF_ONE),
-        ("6 of 2 bytes", &OF_TWO, 2, 14, SIX_OF_TWO),
-        ("5 of 8 bytes", &OF_EIGHT, 8, 42, FIVE_OF_EIGHT),
-    ];
-    for (row, offsets, size, end, bytes) in rows {
-        copies(&rt, row, offsets, size, end, bytes);
+    for (row, offsets, count, size, end, bytes) in ROWS {
+        let these = offsets.get(..*count).expect(&rt, row);
+        copies(&rt, row, these, *size, *end, *bytes);
     }
 }

@@ -39,7 +39,7 @@ struct Row<'a> {
 
 /// In a ring of one place, and in one of bytes that a sample fills, a step sees the place that the
 /// pump freed.
-const ROWS: [Row; 3] = [
+const ROWS: &[Row] = &[
     Row {
         name: "rings of one place",
         parts: &[TWO_PLACES, TWO_LISTS, TWO_TRIGGERS_EACH],
@@ -106,6 +106,6 @@ fn runs_in_order<R: Threads + Wait + Sync + Abort>(rt: &R, alloc: Global, row: R
 #[test]
 fn each_step_stands_between_its_calls_and_each_pump_is_told(rt: HostRuntime) {
     for row in ROWS {
-        runs_in_order(&rt, rt.alloc(), row);
+        runs_in_order(&rt, rt.alloc(), *row);
     }
 }

@@ -38,6 +38,9 @@ const RECORD: [u8; 42] = [
 /// had, and how many were kept.
 type Shown = (u16, Option<(u64, u8, i64)>, u32, usize);
 
+/// What is told of a file: a packet, or how many bytes were taken, and how many are wanted.
+type Told = Result<Shown, (usize, usize)>;
+
 /// What is shown of a packet.
 fn shown(packet: Captured<'_>) -> Shown {
     let time = match packet.time {
@@ -49,7 +52,7 @@ fn shown(packet: Captured<'_>) -> Shown {
 
 /// What is shown of the packet at a place in a file, from 0, or else how many bytes were taken, and
 /// how many are wanted.
-fn packet_at(alloc: Global, file: &[u8], place: usize) -> Result<Shown, (usize, usize)> {
+fn packet_at(alloc: Global, file: &[u8], place: usize) -> Told {
     let mut reader = CaptureReader::new(alloc);
     let mut rest = file;
     let mut at: usize = 0;
@@ -70,53 +73,63 @@ fn packet_at(alloc: Global, file: &[u8], place: usize) -> Result<Shown, (usize, 
     Err((0, 0))
 }
 
+/// A file, a packet's place in it, and what is told.
+const ROWS: &[(&[u8], usize, Told, &str)] = &[
+    (
+        &MICROSECONDS,
+        0,
+        Ok((1, Some((1_000_002, 6, 0)), 4, 3)),
+        "microseconds",
+    ),
+    (
+        &MICROSECONDS,
+        1,
+        Err((43, 16)),
+        "microseconds, nothing left",
+    ),
+    (
+        &NANOSECONDS,
+        0,
+        Ok((101, Some((1_000_000_002, 9, 0)), 1, 1)),
+        "nanoseconds",
+    ),
+    (
+        &SECTION,
+        0,
+        Ok((1, Some((4_294_967_298, 9, -1)), 4, 3)),
+        "enhanced packet block",
+    ),
+    (
+        &SECTION,
+        1,
+        Ok((1, None, 9, 2)),
+        "simple packet block, cut to 2 bytes",
+    ),
+];
+
+/// How many bytes there are of a record, and what is told.
+const FRONTS: &[(usize, Told, &str)] = &[
+    (0, Err((0, 12)), "nothing"),
+    (11, Err((0, 12)), "11 bytes"),
+    (12, Err((0, 24)), "12 bytes"),
+    (23, Err((0, 24)), "23 bytes"),
+    (24, Err((24, 16)), "the header"),
+    (
+        42,
+        Err((24, 19)),
+        "a record of 3 bytes, of which 2 are there",
+    ),
+];
+
 #[test]
 fn packets_are_told_and_bytes_wanted(rt: HostRuntime) {
-    let rows: [(&[u8], usize, Result<Shown, (usize, usize)>, &str); 11] = [
-        (
-            &MICROSECONDS,
-            0,
-            Ok((1, Some((1_000_002, 6, 0)), 4, 3)),
-            "microseconds",
-        ),
-        (
-            &MICROSECONDS,
-            1,
-            Err((43, 16)),
-            "microseconds, nothing left",
-        ),
-        (
-            &NANOSECONDS,
-            0,
-            Ok((101, Some((1_000_000_002, 9, 0)), 1, 1)),
-            "nanoseconds",
-        ),
-        (
-            &SECTION,
-            0,
-            Ok((1, Some((4_294_967_298, 9, -1)), 4, 3)),
-            "enhanced packet block",
-        ),
-        (
-            &SECTION,
-            1,
-            Ok((1, None, 9, 2)),
-            "simple packet block, cut to 2 bytes",
-        ),
-        (&RECORD[..0], 0, Err((0, 12)), "nothing"),
-        (&RECORD[..11], 0, Err((0, 12)), "11 bytes"),
-        (&RECORD[..12], 0, Err((0, 24)), "12 bytes"),
-        (&RECORD[..23], 0, Err((0, 24)), "23 bytes"),
-        (&RECORD[..24], 0, Err((24, 16)), "the header"),
-        (
-            &RECORD,
-            0,
-            Err((24, 19)),
-            "a record of 3 bytes, of which 2 are there",
-        ),
-    ];
-    for (file, place, wanted, row) in rows {
-        let packet = packet_at(rt.alloc(), file, place);
-        same(&rt, packet, wanted, row, "packet");
+    for (file, place, wanted, row) in ROWS {
+        let packet = packet_at(rt.alloc(), file, *place);
+        same(&rt, packet, *wanted, row, "packet");
+    }
+    for (len, wanted, row) in FRONTS {
+        let front = RECORD.get(..*len).expect(&rt, row);
+        let packet = packet_at(rt.alloc(), front, 0);
+        same(&rt, packet, *wanted, row, "packet");
     }
 }

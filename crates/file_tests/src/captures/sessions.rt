@@ -13,7 +13,7 @@ type Exchange<'b> = (&'b [u8], &'b [u8]);
 const DONE: &[u8] = &[0xFF];
 
 /// List 0 of a slave with Intel's byte order.
-const INTEL: [Exchange<'static>; 15] = [
+const INTEL: &[Exchange<'static>] = &[
     (&[0xFF, 0], &[0xFF, 4, 0, 8, 0, 8, 1, 1]),
     (&[0xDA], &[0xFF, 0x51, 2, 0, 1, 0, 0, 0]),
     (&[0xD9], &[0xFF, 1, 8, 1, 8, 0x34, 1, 0]),
@@ -32,7 +32,7 @@ const INTEL: [Exchange<'static>; 15] = [
 ];
 
 /// List 258 of a slave with Motorola's.
-const MOTOROLA: [Exchange<'static>; 11] = [
+const MOTOROLA: &[Exchange<'static>] = &[
     (&[0xFF, 0], &[0xFF, 4, 1, 8, 8, 0, 1, 1]),
     (&[0xDA], &[0xFF, 0x11, 0, 2, 0, 1, 0, 0x80]),
     (&[0xD9], &[0xFF, 1, 8, 1, 8, 0x3A, 0, 10]),
@@ -52,7 +52,7 @@ const MOTOROLA: [Exchange<'static>; 11] = [
 ];
 
 /// What is said once a set-up is there.
-const SAID: [(Side, &[u8], Option<&[u8]>, bool, &str); 4] = [
+const SAID: &[(Side, &[u8], Option<&[u8]>, bool, &str)] = &[
     (Side::Master, &[0xFD], Some(&[0xFD]), true, "GET_STATUS"),
     (Side::Slave, &[], Some(&[0xFD]), true, "nothing"),
     (Side::Slave, &[0xFE, 0x10], None, true, "an error"),
@@ -110,7 +110,7 @@ fn hear_both(
 fn hear_sample(rt: &impl Abort, samples: &mut SlaveSamples, kept: &mut KeptSamples) {
     let mut counter: u16 = 0;
     for exchange in INTEL {
-        hear_both(rt, samples, kept, counter, exchange);
+        hear_both(rt, samples, kept, counter, *exchange);
         counter = counter.wrapping_add(1);
     }
     let packet = [7, 0, 0, 0, 0, 1, 2, 3, 4, 5];
@@ -183,10 +183,10 @@ fn session_has(
 /// whether the list is still known.
 fn goes_on(rt: &impl Abort, alloc: Global, session: &mut CapturedSession) {
     for (side, packet, waiting, wanted, row) in SAID {
-        session.hear(side, packet).expect(rt, "a packet");
-        same(rt, session.waiting(), waiting, row, "waiting");
+        session.hear(*side, packet).expect(rt, "a packet");
+        same(rt, session.waiting(), *waiting, row, "waiting");
         let is_known = list_of(rt, alloc, session, 0).is_some();
-        same(rt, is_known, wanted, row, "known");
+        same(rt, is_known, *wanted, row, "known");
     }
 }
 
@@ -198,15 +198,15 @@ fn a_session_is_known(rt: HostRuntime) {
         element(3, 1, 5, 0x4030_2011),
     ];
     let known: Known<'_> = ((0x10, 0x0201, 3), Some(7), &intel);
-    session_has(&rt, alloc, &INTEL, 0, known, "Intel");
+    session_has(&rt, alloc, INTEL, 0, known, "Intel");
     let motorola = [
         element(0xFF, 4, 6, 0x4030_2010),
         element(0xFF, 2, 0, 0x4030_2014),
         element(0xFF, 1, 0, 0x4030_2016),
     ];
     let known: Known<'_> = ((0, 5, 1), None, &motorola);
-    session_has(&rt, alloc, &MOTOROLA, 0x0102, known, "Motorola");
-    goes_on(&rt, alloc, &mut session_of(&rt, alloc, &INTEL));
+    session_has(&rt, alloc, MOTOROLA, 0x0102, known, "Motorola");
+    goes_on(&rt, alloc, &mut session_of(&rt, alloc, INTEL));
     let told = told_samples(&rt, alloc);
     same(&rt, told, (1, 17, 1, false), "a sample", "samples told");
 }

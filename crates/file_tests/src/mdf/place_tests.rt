@@ -19,7 +19,7 @@ const BITS: ValueFormat = ValueFormat::Unsigned(ByteOrder::MsbLast);
 const MOTOROLA_BITS: ValueFormat = ValueFormat::Unsigned(ByteOrder::MsbFirst);
 
 /// Values that MDF finds.
-const FOUND: [(&str, Value, Place); 8] = [
+const FOUND: &[(&str, Value, Place)] = &[
     (
         "all bits, signed, by Motorola",
         (DataType::SLong, MOTOROLA, None),
@@ -63,7 +63,7 @@ const FOUND: [(&str, Value, Place); 8] = [
 ];
 
 /// Values that it can't find.
-const NOT_FOUND: [(&str, Value); 3] = [
+const NOT_FOUND: &[(&str, Value)] = &[
     ("a mask with a hole", (DataType::UByte, INTEL, Some(0b101))),
     ("a mask of nothing", (DataType::UByte, INTEL, Some(0))),
     (
@@ -100,10 +100,10 @@ fn same(rt: &impl Abort, name: &str, encoding: Encoding, wanted: Option<ValuePla
 #[test]
 fn values_stand_where_mdf_finds_them(rt: HostRuntime) {
     for (name, value, wanted) in FOUND {
-        same(&rt, name, encoding(value), Some(place(wanted)));
+        same(&rt, name, encoding(*value), Some(place(*wanted)));
     }
     for (name, value) in NOT_FOUND {
-        same(&rt, name, encoding(value), None);
+        same(&rt, name, encoding(*value), None);
     }
     let shifted = Encoding {
         operation: Some(BitOperation {

@@ -48,7 +48,7 @@ fn same(rt: &impl Abort, name: &str, places: &[PlacedText], wanted: Places) {
 }
 
 /// Tables whose rows are one number each.
-const VALUES: [(&str, Rows, Places); 3] = [
+const VALUES: &[(&str, Rows, Places)] = &[
     (
         "rows that fall",
         &[(3.0, 3.0), (-1.0, -1.0), (2.0, 2.0)],
@@ -63,7 +63,7 @@ const VALUES: [(&str, Rows, Places); 3] = [
 ];
 
 /// Tables with ranges, of whole numbers.
-const RANGES: [(&str, Rows, Places); 3] = [
+const RANGES: &[(&str, Rows, Places)] = &[
     (
         "ranges that fall",
         &[(10.0, 19.0), (0.0, 9.0)],
@@ -82,7 +82,7 @@ const RANGES: [(&str, Rows, Places); 3] = [
 ];
 
 /// Tables that MDF can't say.
-const LOST: [(&str, Rows); 2] = [
+const LOST: &[(&str, Rows)] = &[
     ("ranges that overlap", &[(0.0, 9.0), (5.0, 15.0)]),
     (
         "a range around an earlier number",
@@ -115,12 +115,12 @@ fn has_ranges(rt: &impl Abort, name: &str, rule: &Rule, wanted: Places) {
 #[test]
 fn tables_of_texts_rise(rt: HostRuntime) {
     for (name, rows, wanted) in VALUES {
-        let rule = rule(&rt, rt.alloc(), rows, false);
-        has_values(&rt, name, &rule, wanted);
+        let rule = rule(&rt, rt.alloc(), *rows, false);
+        has_values(&rt, name, &rule, *wanted);
     }
     for (name, rows, wanted) in RANGES {
-        let rule = rule(&rt, rt.alloc(), rows, true);
-        has_ranges(&rt, name, &rule, wanted);
+        let rule = rule(&rt, rt.alloc(), *rows, true);
+        has_ranges(&rt, name, &rule, *wanted);
     }
 }
 
@@ -133,7 +133,7 @@ fn is_lost(rt: &impl Abort, name: &str, rule: &Rule) {
 fn what_mdf_cannot_say_is_lost(rt: HostRuntime) {
     let alloc = rt.alloc();
     for (name, rows) in LOST {
-        is_lost(&rt, name, &rule(&rt, alloc, rows, true));
+        is_lost(&rt, name, &rule(&rt, alloc, *rows, true));
     }
     is_lost(&rt, "not whole", &rule(&rt, alloc, &[(0.0, 9.0)], false));
     let other = rule_of(alloc, &Conversion::Other, true);
@@ -174,7 +174,7 @@ fn numbers_stand_where_mdf_has_them(rt: HostRuntime) {
 }
 
 /// Places of ranges that rise.
-const TWO_PLACES: [PlacedText; 2] = [
+const TWO_PLACES: &[PlacedText] = &[
     PlacedText {
         least: 0.0,
         greatest: 9.0,
@@ -189,10 +189,10 @@ const TWO_PLACES: [PlacedText; 2] = [
 
 #[test]
 fn keys_and_bounds_stand_where_mdf_has_them(rt: HostRuntime) {
-    let keys = keys_of(rt.alloc(), &TWO_PLACES).expect(&rt, "memory");
+    let keys = keys_of(rt.alloc(), TWO_PLACES).expect(&rt, "memory");
     let wanted: &[f64] = &[0.0, 10.0];
     holds(&rt, keys.as_slice() == wanted, "keys");
-    let bounds = bounds_of(rt.alloc(), &TWO_PLACES).expect(&rt, "memory");
+    let bounds = bounds_of(rt.alloc(), TWO_PLACES).expect(&rt, "memory");
     let wanted: &[f64] = &[0.0, 9.0, 10.0, 19.0];
     holds(&rt, bounds.as_slice() == wanted, "bounds");
 }
