@@ -9,7 +9,7 @@ use crate::output_file::make_output;
 use crate::program_fault::ProgramFault;
 use crate::run_output::tell_raw;
 use capture_tables::CaptureFile;
-use mdf_file::SeekOut;
+use mdf_file::{MdfOut, SeekOut};
 use mdf_groups::GroupFault;
 use std::alloc::Global;
 use std::io::Write;
@@ -39,7 +39,18 @@ pub fn write_columns<R: Files, E: Write + Drop>(
     let inputs = [options.path, options.a2l.unwrap_or("")];
     let file = make_output(rt, output.path, &inputs, messages)?;
     let sheet = CaptureFile::new(alloc, said, output.start, columns, SeekOut::new(file));
-    let (sheet, broken) = read_samples(rt, alloc, source, sheet.map_err(fault_of)?, messages)?;
+    write_samples(rt, alloc, source, sheet.map_err(fault_of)?, messages)
+}
+
+/// Writes the samples of a capture to a file, to its end.
+fn write_samples<R: Files, O: MdfOut + Drop, E: Write + Drop>(
+    rt: &R,
+    alloc: Global,
+    source: CaptureSource<'_>,
+    sheet: CaptureFile<'_, O>,
+    messages: &mut ErrMessages<E>,
+) -> Result<(), ProgramFault> {
+    let (sheet, broken) = read_samples(rt, alloc, source, sheet, messages)?;
     match sheet.finish() {
         Ok(_out) => end_by(broken),
         Err(fault) => Err(fault_of(fault)),

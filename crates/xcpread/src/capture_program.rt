@@ -39,6 +39,15 @@ pub struct CaptureSource<'a> {
     pub form: Form,
 }
 
+/// A slave of a capture, and how it is shown.
+#[derive(Clone, Copy)]
+struct Shown<'a> {
+    source: CaptureSource<'a>,
+    options: CaptureOptions<'a>,
+    /// What its lists have.
+    survey: &'a ElementSurvey,
+}
+
 /// A survey of each slave, or of the one that is chosen.
 #[derive(Drop)]
 struct Surveys {
@@ -92,6 +101,20 @@ pub fn show_capture<R: Files, I: Read + Drop, W: Write + Drop, E: Write + Drop>(
         Some(held) => CaptureBytes::Held(held),
         None => CaptureBytes::File(options.path),
     };
+    show_bytes(rt, alloc, options, bytes, description, out, messages)?;
+    Ok(0)
+}
+
+/// The same, of the capture's bytes, with a description of its values if there is one.
+fn show_bytes<R: Files, W: Write + Drop, E: Write + Drop>(
+    rt: &R,
+    alloc: Global,
+    options: CaptureOptions<'_>,
+    bytes: CaptureBytes<'_>,
+    description: Option<Description>,
+    out: W,
+    messages: &mut ErrMessages<E>,
+) -> Result<(), ProgramFault> {
     let form = form_of(description.as_ref());
     let slave = survey(rt, alloc, options, form, bytes, messages)?;
     let source = CaptureSource {
@@ -100,27 +123,66 @@ pub fn show_capture<R: Files, I: Read + Drop, W: Write + Drop, E: Write + Drop>(
         slave: slave.address,
         form,
     };
+    let shown = Shown {
+        source,
+        options,
+        survey: &slave.sink,
+    };
+    show_slave(rt, alloc, shown, description, out, messages)
+}
+
+/// Shows the session, the values or the elements of a slave.
+fn show_slave<R: Files, W: Write + Drop, E: Write + Drop>(
+    rt: &R,
+    alloc: Global,
+    shown: Shown<'_>,
+    description: Option<Description>,
+    out: W,
+    messages: &mut ErrMessages<E>,
+) -> Result<(), ProgramFault> {
+    let options = shown.options;
     if options.explain {
-        show_story(rt, alloc, source, out, messages)?;
-        return Ok(0);
+        return show_story(rt, alloc, shown.source, out, messages);
     }
     let values = if options.long { None } else { description };
     match values {
-        Some(description) => {
-            let description = with_elements(alloc, description, &slave.sink)?;
-            let columns = columns_of(alloc, &description, &slave.sink, options, messages)?;
-            match options.mf4 {
-                Some(path) => {
-                    let start = slave.sink.first();
-                    let output = CaptureOutput { path, start };
-                    write_columns(rt, alloc, source, options, output, columns, messages)?;
-                }
-                None => show_columns(rt, alloc, source, options, columns, out, messages)?,
-            }
-        }
-        None => show_lists(rt, alloc, source, options, out, messages)?,
+        Some(description) => show_values(rt, alloc, shown, description, out, messages),
+        None => show_lists(rt, alloc, shown.source, options, out, messages),
     }
-    Ok(0)
+}
+
+/// Shows the values of a slave.
+fn show_values<R: Files, W: Write + Drop, E: Write + Drop>(
+    rt: &R,
+    alloc: Global,
+    shown: Shown<'_>,
+    description: Description,
+    out: W,
+    messages: &mut ErrMessages<E>,
+) -> Result<(), ProgramFault> {
+    let description = with_elements(alloc, description, shown.survey)?;
+    let columns = columns_of(alloc, &description, shown.survey, shown.options, messages)?;
+    show_chosen(rt, alloc, shown, columns, out, messages)
+}
+
+/// Shows columns, or writes them to a measurement file.
+fn show_chosen<R: Files, W: Write + Drop, E: Write + Drop>(
+    rt: &R,
+    alloc: Global,
+    shown: Shown<'_>,
+    columns: Vec<Column<'_>>,
+    out: W,
+    messages: &mut ErrMessages<E>,
+) -> Result<(), ProgramFault> {
+    let (source, options) = (shown.source, shown.options);
+    match options.mf4 {
+        Some(path) => {
+            let start = shown.survey.first();
+            let output = CaptureOutput { path, start };
+            write_columns(rt, alloc, source, options, output, columns, messages)
+        }
+        None => show_columns(rt, alloc, source, options, columns, out, messages),
+    }
 }
 
 /// How packets look until their slave says so itself.

@@ -114,7 +114,7 @@ struct Choice<'a> {
 }
 
 /// The options: the ways to show samples, what is shown by name, and whether progress is told.
-const CHOICES: [Choice; 14] = [
+const CHOICES: &[Choice] = &[
     Choice {
         name: "summary",
         value: None,
@@ -208,7 +208,8 @@ fn command<'a>(alloc: Global) -> Result<Command<'a>, AllocError> {
         .about("Reads a recording or a capture back, and prints its samples")
         .no_binary_name(true);
     for choice in CHOICES {
-        command = with_choice(alloc, command, choice)?;
+        let option = option_of(alloc, *choice)?;
+        command = command.arg(option)?;
     }
     let run = "A capture (pcap, pcapng; - is standard input), or the run file of a recording";
     let command = with_file(alloc, command, "run", "FILE", run, true)?;
@@ -216,21 +217,16 @@ fn command<'a>(alloc: Global) -> Result<Command<'a>, AllocError> {
     with_file(alloc, command, "frames", "FRAMES", frames, false)
 }
 
-/// A command that also takes an option.
-fn with_choice<'a>(
-    alloc: Global,
-    command: Command<'a>,
-    choice: Choice<'a>,
-) -> Result<Command<'a>, AllocError> {
+/// An option of the command.
+fn option_of<'a>(alloc: Global, choice: Choice<'a>) -> Result<Arg<'a>, AllocError> {
     let option = Arg::new(alloc, choice.name)
         .long(choice.name)
         .help(choice.help)
         .conflicts_with_all(choice.without)?;
-    let option = match choice.value {
+    Ok(match choice.value {
         Some(value) => option.value_name(value).action(ArgAction::Set),
         None => option.action(ArgAction::SetTrue),
-    };
-    command.arg(option)
+    })
 }
 
 /// A command that also takes a file, which may have to be named.

@@ -68,22 +68,31 @@ fn write_from<R: Files, I: Read + Drop, E: Write + Drop>(
     let shapes = shapes_of(alloc, recorded.store)?;
     let columns = chosen_columns(alloc, values, &shapes, from.messages)?;
     tell_not_shown(values, &shapes, from.messages);
-    tell_raw(alloc, &columns, from.messages)?;
-    let inputs = [options.run, options.frames, options.a2l.unwrap_or("")];
-    let file = make_output(rt, path, &inputs, from.messages)?;
     let values = FileValues {
         columns: &columns,
         tick: values.tick,
     };
+    write_chosen(rt, alloc, options, path, recorded, values, from)
+}
+
+/// Makes the output, and writes these values to it.
+fn write_chosen<R: Files, I: Read + Drop, E: Write + Drop>(
+    rt: &R,
+    alloc: Global,
+    options: Options<'_>,
+    path: &str,
+    recorded: &RunRecording<'_>,
+    values: FileValues<'_>,
+    from: &mut Source<'_, I, ErrMessages<E>>,
+) -> Result<u8, ProgramFault>
+    ensures { IfOk result (λ status. status ≤ 1) }
+{
+    tell_raw(alloc, values.columns, from.messages)?;
+    let inputs = [options.run, options.frames, options.a2l.unwrap_or("")];
+    let file = make_output(rt, path, &inputs, from.messages)?;
     let said = about(alloc, None)?;
-    match write_values(
-        alloc,
-        recorded.store,
-        values,
-        said,
-        from,
-        SeekOut::new(file),
-    )? {
+    let out = SeekOut::new(file);
+    match write_values(alloc, recorded.store, values, said, from, out)? {
         Some(_) => Ok(0),
         None => Err(ProgramFault::Unwritten),
     }
